@@ -12,22 +12,9 @@ use Rattle.console_spec.specs.Console.{console_machine, start}
 use Rattle.console_spec.specs.HostRuns.{RunsOnHost}
 use Rattle.console_spec.specs.Lines.{LinesMake, fed_out, samples_left}
 use Rattle.console_spec.specs.Headline.{GoesOn, Headline, Refuses}
-use Rattle.console_spec.specs.Sounds.{Sounds}
 use Rattle.console_spec.proofs.BirthLemmas.{goes}
-use Rattle.console_spec.proofs.HostRunLemmas.{asks_by_members, leads_on, runs, runs_on}
+use Rattle.console_spec.proofs.HostRunLemmas.{leads_on, runs, runs_on}
 use Rattle.console_spec.proofs.LineLemmas.{Leaves, all_did, and_then, did_first}
-
-module _ {M : Type 0} (kinds : Meaning M) (named : List ℕ → Option M) (widths : Widths) (sizes : Sizes) (poison : Option ℤ) (octets : List (List ℕ)) (honest : ℕ → Bool) where
-  pub sounds : (lines : List (List ℕ)) (answer : Answer (Channels M)) → Headline kinds named widths sizes poison lines octets honest answer
-      → Sounds kinds named widths poison lines octets answer.run.inputs honest (λ c. held_by (Some c) (order_of answer.written))
-  sounds lines answer says = record {
-    calls = says.calls;
-    commands = says.commands;
-    asked = says.asked;
-    asks = asks_by_members kinds says.calls says.asked (start sizes poison octets).state answer.run.state says.runs;
-    each = λ i kind g p later lawful born. (says.each i kind g p later lawful born).gives;
-    outputs = says.outputs;
-  }
 
 module _ {M : Type 0} (kinds : Meaning M) (named : List ℕ → Option M) (widths : Widths) (sizes : Sizes) (poison : Option ℤ) (octets : List (List ℕ)) (honest : ℕ → Bool)
     (refuses : Refuses kinds named widths) (leaves : Leaves kinds widths named honest) where

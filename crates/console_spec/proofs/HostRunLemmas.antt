@@ -1,6 +1,6 @@
 -- A run of calls of channels is a run of calls of their host.
-use Rattle.std.proofs.Common.{◌≡◌, ℕ, Bool, true, false, List, [], ◌∷◌, ◌++◌, Option, Some, None, Result, Ok, Err, refl, ap, sym, ◌∙◌, subst, append_assoc}
-use Rattle.std.specs.Prelude.{not, is_none, set}
+use Rattle.std.proofs.Common.{◌≡◌, Bool, true, false, List, [], ◌∷◌, ◌++◌, Option, Some, None, Result, Ok, Err, refl, ap, sym, ◌∙◌, subst, append_assoc}
+use Rattle.std.specs.Prelude.{not, is_none}
 use Rattle.ialg.specs.declared.refusal.Refusal.{Refusal}
 use Rattle.ialg.specs.declared.refusal.Refusal.TheVariants.{Range, Missing, Busy}
 use Rattle.ialg.specs.Refusals.{first_refusal}
@@ -17,7 +17,6 @@ use Rattle.channel_spec.specs.Calls.{Call, Does}
 use Rattle.channel_spec.specs.Calls.Call.{Chain, Unchain, Remove, Ready, Feed, OfHost}
 use Rattle.channel_spec.proofs.PassingLemmas.{leads_of}
 use Rattle.console_spec.specs.HostRuns.{AsHostCalls, Leads, RunsOnHost}
-use Rattle.console_spec.specs.Sounds.{AskTheHost, chained_after}
 
 err_is_no_ok : {A E : Type 0} (r : E) (a : A) → ◌≡◌ {A = Result A E} (Err r) (Ok a) → ⊥
 err_is_no_ok r a e = cc
@@ -28,23 +27,6 @@ module _ {M : Type 0} (before after : Channels M) where
       → (answer, after) ≡ unless r before (Ok a, next) → after.host ≡ before.host
   host_stays None answer a next same e = ap (λ o. o.1.host) e ∙ same
   host_stays (Some refusal) answer a next same e = ap (λ o. o.1.host) e
-
-  -- what changes no channel's members leaves them, granted or refused
-  members_stay : {A : Type 0} (r : Option Refusal) (answer : Result A Refusal) (a : A) (next : Channels M) → next.chained ≡ before.chained
-      → (answer, after) ≡ unless r before (Ok a, next) → after.chained ≡ before.chained
-  members_stay None answer a next same e = ap (λ o. o.1.chained) e ∙ same
-  members_stay (Some refusal) answer a next same e = ap (λ o. o.1.chained) e
-
-  -- a channel has these members where that was granted, and those that it had where it was refused
-  members_set : (r : Option Refusal) (done : Unit {0}) (c : ℕ) (is : List ℕ)
-      → (Ok done, after) ≡ unless r before (Ok (tt {0}), with_members before c is) → after.chained ≡ set before.chained c is
-  members_set None done c is e = ap (λ o. o.1.chained) e
-  members_set (Some refusal) done c is e = absurd (err_is_no_ok refusal done (ap (λ o. o.0) (sym e)))
-
-  members_kept : (r : Option Refusal) (refusal : Refusal) (c : ℕ) (is : List ℕ)
-      → (Err refusal, after) ≡ unless r before (Ok (tt {0}), with_members before c is) → after.chained ≡ before.chained
-  members_kept None refusal c is e = absurd (err_is_no_ok refusal (tt {0}) (ap (λ o. o.0) e))
-  members_kept (Some other) refusal c is e = ap (λ o. o.1.chained) e
 
   -- a refused call leaves the host
   refused_stays : {A : Type 0} (r : Option Refusal) (refusal : Refusal) (a : A) (next : Channels M)
@@ -78,30 +60,6 @@ module _ {M : Type 0} (kinds : Meaning M) where
   asks before after (Ready c answer) does = ([], refl, host_stays before after (channel_refusal before c) answer tt before refl does)
   asks before after (Feed c block out) does = (does.1, does.2, leads_of kinds does.1 before.host after.host does.3)
   asks before after (OfHost call) does = (call ∷ [], refl, (after.host, does.1, refl))
-
-  -- which members each channel has behind a call
-  chained_is : (before after : Channels M) (call : Call M) → Does kinds before call after → after.chained ≡ chained_after before.chained call
-  chained_is before after (Chain c members (Ok done)) does = members_set before after (chain_refusal before c members) done c members does
-  chained_is before after (Chain c members (Err refusal)) does = members_kept before after (chain_refusal before c members) refusal c members does
-  chained_is before after (Unchain c (Ok done)) does = members_set before after (channel_refusal before c) done c [] does
-  chained_is before after (Unchain c (Err refusal)) does = members_kept before after (channel_refusal before c) refusal c [] does
-  chained_is before after (Remove i answer) does =
-      members_stay before after (delete_refusal before i) answer tt (on_host before (steps.delete kinds before.host i).1) refl does
-  chained_is before after (Ready c answer) does = members_stay before after (channel_refusal before c) answer tt before refl does
-  chained_is before after (Feed c block out) does = does.4
-  chained_is before after (OfHost call) does = does.2
-
-  -- what calls ask of the host goes by the members of the channels alone
-  pub asks_by_members : (calls : List (Call M)) (asked : List (host_calls.Call M)) (before after : Channels M) → RunsOnHost kinds before calls asked after
-      → AskTheHost before.chained calls asked
-  asks_by_members [] asked before after ran = ran.0
-  asks_by_members (call ∷ calls) asked before after ran = (
-    ran.1,
-    ran.2,
-    ran.4,
-    subst (λ chained. AskTheHost chained calls ran.2) (chained_is before ran.0 call ran.3) (asks_by_members calls ran.2 ran.0 after ran.5),
-    ran.6,
-  )
 
   -- one run after the other
   pub leads_on : (calls more : List (host_calls.Call M)) (before mid after : State M)

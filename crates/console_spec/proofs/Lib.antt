@@ -4,3 +4,7 @@ pub mod BirthLemmas
 pub mod LineLemmas
 pub mod RoomLemmas
 pub mod HeadlineLemmas
+pub mod FollowLemmas
+pub mod SoundLemmas
+pub mod OneSoundLemmas
+pub mod SilenceLemmas

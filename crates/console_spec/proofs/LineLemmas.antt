@@ -52,7 +52,7 @@ held_nothing : (c : ℕ) → held c [] ≡ []
 unfolding held_by order_of
 held_nothing c = refl
 
-held_more : (c : ℕ) (first later : List Written) → held c (first ++ later) ≡ held c first ++ held c later
+pub held_more : (c : ℕ) (first later : List Written) → held c (first ++ later) ≡ held c first ++ held c later
 unfolding order_of
 held_more c first later = ap (held_by (Some c)) (flat_map-append served.octets_written first later) ∙ held_by-append (Some c) (order_of first) (order_of later)
 
@@ -61,7 +61,7 @@ unfolding held_by
 held_of_text c [] = refl
 held_of_text c (x ∷ xs) = held_of_text c xs
 
-held_of_reply : (c : ℕ) (reply : Reply) → held c (Replied reply ∷ []) ≡ []
+pub held_of_reply : (c : ℕ) (reply : Reply) → held c (Replied reply ∷ []) ≡ []
 unfolding order_of
 held_of_reply c reply = ap (held_by (Some c)) (append-nil (map (λ b. (None, b)) (reply_text reply))) ∙ held_of_text c (reply_text reply)
 

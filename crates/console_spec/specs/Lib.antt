@@ -11,3 +11,4 @@ pub mod Headline
 pub mod OneAnswerLaws
 pub mod RunLaws
 pub mod MainLaw
+pub mod SoundLaws

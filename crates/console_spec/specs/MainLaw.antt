@@ -1,16 +1,15 @@
 -- What the main theorem says of runs of the machine.
-use Rattle.std.specs.Prelude.{◌≡◌, ◌++◌, ℕ, ℤ, Bool, [], IsTrue, List, Option, Some}
+use Rattle.std.specs.Prelude.{◌≡◌, ◌++◌, ℕ, ℤ, Bool, [], IsTrue, List, Option}
 use Rattle.ialg.specs.Meaning.{Meaning}
 use Rattle.host_map.specs.declared.parts.Sizes.{Sizes}
 use Rattle.host_spec.specs.Calls.{Call}
 use Rattle.host_spec.specs.Runs.{history_of_run, outputs_in, statuses_in}
 use Rattle.channel_spec.specs.Channels.{Channels}
-use Rattle.voice_script.specs.Served.{Answer, LinesAnswer, held_by, order_of}
+use Rattle.voice_script.specs.Served.{Answer, LinesAnswer}
 use Rattle.voice_script.specs.Widths.{Widths}
 use Rattle.console_spec.specs.Console.{console_machine, start}
 use Rattle.console_spec.specs.Births.{Born}
 use Rattle.console_spec.specs.Headline.{GoesOn, Headline}
-use Rattle.console_spec.specs.Sounds.{Sounds}
 
 -- the headline holds of each answer to a list of lines
 abbrev pub RunsHaveTheHeadline : Type 0 → Type 0
@@ -25,13 +24,6 @@ FirstLinesHaveTheHeadline M =
     (kinds : Meaning M) (named : List ℕ → Option M) (widths : Widths) (sizes : Sizes) (poison : Option ℤ) (first more inputs : List (List ℕ)) (honest : ℕ → Bool) (answer : Answer (Channels M))
     → LinesAnswer (console_machine kinds named widths) honest (start sizes poison inputs) (first ++ more) answer
     → GoesOn kinds named widths sizes poison first more inputs honest answer
-
--- and with it its sounds
-abbrev pub TheHeadlineHasItsSounds : Type 0 → Type 0
-TheHeadlineHasItsSounds M =
-    (kinds : Meaning M) (named : List ℕ → Option M) (widths : Widths) (sizes : Sizes) (poison : Option ℤ) (lines inputs : List (List ℕ)) (honest : ℕ → Bool) (answer : Answer (Channels M))
-    → Headline kinds named widths sizes poison lines inputs honest answer
-    → Sounds kinds named widths poison lines inputs answer.run.inputs honest (λ c. held_by (Some c) (order_of answer.written))
 
 -- in two runs lawful instances of one kind and the same parameters, given the same since their creation, give and answer the same
 abbrev pub InstancesOfTwoRunsAgree : {M : Type 0} → Meaning M → (List ℕ → Option M) → Type 0

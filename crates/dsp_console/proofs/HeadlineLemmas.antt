@@ -19,8 +19,8 @@ says_headline kinds named widths sizes poison (Ok summary) old new law script en
 says_headline kinds named widths sizes poison (Err fault) old new law script ends = tt
 
 pub says_sounds : {M : Type 0} (kinds : Meaning M) (named : List ℕ → Option M) (widths : Widths) (sizes : Sizes) (poison : Option ℤ) (result : Result Summary Fault) (old new : Devices)
-    → ((refused : ℕ) (old new : Devices) → RunHeadline kinds named widths sizes poison refused old new → RunSounds kinds named widths poison old new)
+    → ((refused : ℕ) (old new : Devices) → RunHeadline kinds named widths sizes poison refused old new → RunSounds kinds named widths poison refused old new)
     → IfOk result (λ summary. RunHeadline kinds named widths sizes poison summary.refused old new)
-    → IfOk result (λ summary. RunSounds kinds named widths poison old new)
+    → IfOk result (λ summary. RunSounds kinds named widths poison summary.refused old new)
 says_sounds kinds named widths sizes poison (Ok summary) old new law says = law summary.refused old new says
 says_sounds kinds named widths sizes poison (Err fault) old new law says = tt

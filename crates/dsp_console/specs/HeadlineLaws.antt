@@ -28,7 +28,7 @@ module _ {M : Type 0} (kinds : Meaning M) (named : List ℕ → Option M) where
   abbrev pub RunsHaveTheirSounds : Type 0
   RunsHaveTheirSounds =
       (widths : Widths) (sizes : Sizes) (poison : Option ℤ) (refused : ℕ) (old new : Devices)
-      → RunHeadline kinds named widths sizes poison refused old new → RunSounds kinds named widths poison old new
+      → RunHeadline kinds named widths sizes poison refused old new → RunSounds kinds named widths poison refused old new
 
   -- and the first lines of its script have it by themselves
   abbrev pub FirstLinesOfRunsHaveIt : Type 0

@@ -29,7 +29,7 @@ module _ {M : Type 0} (kinds : Meaning M) (named : List ℕ → Option M) (confi
 
   -- and its sounds
   abbrev pub HasSounds : Type 0
-  HasSounds = IsHonest old.script → IfOk result (λ summary. RunSounds kinds named (widths_of config.in8 config.out8) config.poison old new)
+  HasSounds = IsHonest old.script → IfOk result (λ summary. RunSounds kinds named (widths_of config.in8 config.out8) config.poison summary.refused old new)
 
   -- all was served, and passed on
   abbrev pub RunEndsWell : Type 0

@@ -24,4 +24,5 @@ pub fn headline<M: Ialg + Named>()
     ensures two { InstancesOfTwoRunsAgree M.law.meaning M.named }
 {
     console_spec::headline::<M>();
+    console_spec::answers_have_sounds::<M>();
 }

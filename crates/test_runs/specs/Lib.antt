@@ -2,6 +2,7 @@ pub mod TwoRuns
 pub mod Row
 pub mod Rooms
 pub mod Sounds
+pub mod FirstExample
 pub mod Beside
 pub mod Calls
 pub mod VoiceRows

@@ -26,10 +26,6 @@ returns-clause-first g c = λ kinds named widths sizes poison first more inputs 
     })
     (c.refused_calls_change_nothing.ensures kinds) first more answer served
 
-pub returns-clause-sounds : goal.returns-clause-sounds
-returns-clause-sounds g c = λ kinds named widths sizes poison lines inputs honest answer says.
-    lemmas.sounds kinds named widths sizes poison inputs honest lines answer says
-
 pub returns-clause-two : goal.returns-clause-two
 returns-clause-two g c = λ kinds named widths other_widths sizes other_sizes poison other_poison lines inputs other_lines other_inputs honest other_honest answer other one two i j g' h kind p later since lawful born lawful' born' same.
     let first = one.each i kind g' p later lawful born in

@@ -1,9 +1,8 @@
-use Rattle.std.proofs.Common.{List, ℕ, Some, subst}
-use Rattle.script_server.specs.Runs.{honest_at, octets_to_come}
+use Rattle.std.proofs.Common.{List, ℕ, ap, sym, subst, ◌∙◌}
+use Rattle.script_server.specs.Runs.{Writes, honest_at, octets_to_come}
 use Rattle.voice_script.specs.Script.{lines_of}
-use Rattle.voice_script.specs.Served.{LinesAnswer, held_by, order_of}
+use Rattle.voice_script.specs.Served.{LinesAnswer, Written, order_of, refusals}
 use Rattle.console_spec.specs.Console.{console_machine, start}
-use Rattle.console_spec.specs.Sounds.{Sounds}
 use Rattle.dsp_console.proofs.laws.headline.Goals as goal
 
 pub returns-clause-ok : goal.returns-clause-ok
@@ -23,12 +22,14 @@ pub returns-clause-sounds : goal.returns-clause-sounds
 returns-clause-sounds g c = λ widths sizes poison refused old new run.
     let kinds = g.M.Ialg.law.meaning in
     let named = g.M.Named.named in
-    let written : ℕ → List ℕ = λ c. held_by (Some c) (order_of run.serves.answer.written) in
+    let s = c.answers_have_sounds.ensures kinds named widths sizes poison (lines_of old.script.coming) (octets_to_come old.inputs) (honest_at old.inputs) run.serves.answer run.serves.is_answer in
     record {
-      written = written;
-      sounds = subst (λ (rest : List (List ℕ)). Sounds kinds named widths poison (lines_of old.script.coming) (octets_to_come old.inputs) rest (honest_at old.inputs) written) run.serves.inputs
-          (c.headline.ensures.sounds kinds named widths sizes poison (lines_of old.script.coming) (octets_to_come old.inputs) (honest_at old.inputs) run.serves.answer run.says);
-      holds = run.serves.writes.output;
+      at_end = run.serves.at_end;
+      answer = s.answer;
+      is_answer = s.may;
+      inputs = s.leaves ∙ run.serves.inputs;
+      writes = subst (λ (w : List Written). Writes (order_of w) old.outputs new.outputs old.replies new.replies) (sym s.writes) run.serves.writes;
+      counted = ap refusals s.writes ∙ run.serves.counted;
     }
 
 pub returns-clause-first : goal.returns-clause-first
