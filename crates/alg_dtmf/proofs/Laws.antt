@@ -1,5 +1,6 @@
 -- What a detector asks for, and what its words keep after a control or a block.
 use Rattle.std.proofs.Common.{◌≡◌, ℤ, pos, ◌+◌, ◌≤◌, unsigned_abs, ◌==◌, ◌&&◌, List, [], ◌∷◌, length, take, Some, sym, ap, arith}
+use Rattle.std.proofs.lemmas.Bool.{and_parts}
 use Rattle.std.proofs.lemmas.Bool.Decides.{nat_tests}
 use Rattle.mem_rec.specs.declared.TheConstants.{LEAST_ALIGNMENT}
 use Rattle.ialg.specs.declared.filter.FilterMemory.{FilterMemory}
@@ -8,7 +9,7 @@ use Rattle.ialg.proofs.Tables.{chosen}
 use Rattle.ialg.proofs.Histories.{IsWordHistory-with_samples}
 use Rattle.ialg.specs.Meaning.{is_between}
 use Rattle.kind_parts.proofs.Frames.{no_samples}
-use Rattle.kind_parts.proofs.Parameters.{both_hold, count_is}
+use Rattle.kind_parts.proofs.Parameters.{count_is}
 use Rattle.alg_dtmf.specs.declared.TheConstants.{PARAMETERS, STATE_WORDS, FRAME_SAMPLES, MOST_SHIFT}
 use Rattle.alg_dtmf.specs.Equation.{frame_length, energy_of, low_values, high_values}
 use Rattle.alg_dtmf.specs.Keeps.{frame_words, state_after, Ran, Runs}
@@ -28,7 +29,7 @@ memory_some p m e =
     let b = is_between (pos 1) FRAME_SAMPLES (word_at p 0) in
     let c = is_between (pos 0) MOST_SHIFT (word_at p 1) in
     let g = chosen (a && b && c) (record { kept = PARAMETERS + STATE_WORDS; running = STATE_WORDS; align = LEAST_ALIGNMENT }) m e in
-    let ab = both_hold a b (both_hold (a && b) c g.0).0 in
+    let ab = and_parts a b (and_parts (a && b) c g.0).0 in
     let seven = ab.0 in
     let f = count_is (unsigned_abs FRAME_SAMPLES) (word_at p 0) ab.1 in
     record { seven = grind (arith, nat_tests, seven); some = f.some; few = f.few; frame = f.natural; memory = g.1 }

@@ -4,7 +4,7 @@ use Rattle.std.specs.Prelude.{ℕ, List, [], ◌∷◌, ℤ, pos, unsigned_abs, 
 use Rattle.basic_op.specs.Operators.{add_of, sub_of, shl_of, shr_of, mult_of, extract_h_of, round_of, l_mult_of, l_mac_of, l_msu_of, l_shl_of, norm_l_of}
 use Rattle.ialg.specs.History.{History, word_at, outputs_by}
 use Rattle.kind_parts.specs.Frames.{gives_by_frame}
-use Rattle.alg_dtmf.specs.declared.TheConstants.{ONE, ENERGY_BITS, SHARE_BITS, PLACE_BITS, NO_DIGIT, FACTOR_697, FACTOR_770, FACTOR_852, FACTOR_941, FACTOR_1209, FACTOR_1336, FACTOR_1477, FACTOR_1633}
+use Rattle.alg_dtmf.specs.Tones.{one, fewer_bits, share_bits, place_bits, no_digit, factor_697, factor_770, factor_852, factor_941, factor_1209, factor_1336, factor_1477, factor_1633}
 use Rattle.alg_dtmf.specs.declared.decision.Tone.{Tone}
 use Rattle.alg_dtmf.specs.declared.decision.Levels.{Levels}
 use Rattle.alg_dtmf.specs.declared.kernel.Band.{Band}
@@ -20,11 +20,11 @@ feedback_of k v = round_of (l_shl_of (l_mult_of k v) (pos 1))
 
 -- 1 / 2^s in Q14
 abbrev pub gain_of : ℤ → ℤ
-gain_of s = shr_of ONE s
+gain_of s = shr_of one s
 
 -- v(n) = k v(n-1) - v(n-2) + g x, summed in Q30 and rounded once
 abbrev pub next_value : ℤ → ℤ → ℤ → ℤ → ℤ → ℤ
-next_value k g x v1 v2 = round_of (l_shl_of (l_mac_of (l_msu_of (l_mult_of k v1) v2 ONE) x g) (pos 1))
+next_value k g x v1 v2 = round_of (l_shl_of (l_mac_of (l_msu_of (l_mult_of k v1) v2 one) x g) (pos 1))
 
 unfoldable pub next_values : ℤ → ℤ → ℤ → ℤ × ℤ → ℤ × ℤ
 next_values k g x v = (next_value k g x v.0 v.1, v.0)
@@ -34,10 +34,10 @@ unfoldable pub next_band : Factors → ℤ → ℤ → Band → Band
 next_band k g x v = record { a = next_values k.a g x v.a; b = next_values k.b g x v.b; c = next_values k.c g x v.c; d = next_values k.d g x v.d }
 
 abbrev pub low_factors : Factors
-low_factors = record { a = FACTOR_697; b = FACTOR_770; c = FACTOR_852; d = FACTOR_941 }
+low_factors = record { a = factor_697; b = factor_770; c = factor_852; d = factor_941 }
 
 abbrev pub high_factors : Factors
-high_factors = record { a = FACTOR_1209; b = FACTOR_1336; c = FACTOR_1477; d = FACTOR_1633 }
+high_factors = record { a = factor_1209; b = factor_1336; c = factor_1477; d = factor_1633 }
 
 abbrev pub no_values : Band
 no_values = record { a = (pos 0, pos 0); b = (pos 0, pos 0); c = (pos 0, pos 0); d = (pos 0, pos 0) }
@@ -56,10 +56,10 @@ unfoldable pub level_of : ℤ → ℤ × ℤ → ℤ
 level_of k v = l_msu_of (l_mac_of (l_mult_of v.0 v.0) v.1 v.1) (feedback_of k v.0) v.1
 
 unfoldable pub low_levels : Band → Levels
-low_levels v = record { a = level_of FACTOR_697 v.a; b = level_of FACTOR_770 v.b; c = level_of FACTOR_852 v.c; d = level_of FACTOR_941 v.d }
+low_levels v = record { a = level_of factor_697 v.a; b = level_of factor_770 v.b; c = level_of factor_852 v.c; d = level_of factor_941 v.d }
 
 unfoldable pub high_levels : Band → Levels
-high_levels v = record { a = level_of FACTOR_1209 v.a; b = level_of FACTOR_1336 v.b; c = level_of FACTOR_1477 v.c; d = level_of FACTOR_1633 v.d }
+high_levels v = record { a = level_of factor_1209 v.a; b = level_of factor_1336 v.b; c = level_of factor_1477 v.c; d = level_of factor_1633 v.d }
 
 -- the energy with the square of one more sample, shifted by so many bits
 abbrev pub with_square : ℤ → ℤ → ℤ → ℤ
@@ -67,7 +67,7 @@ with_square n x e = let y = shr_of x n in l_mac_of e y y
 
 -- the bits by which samples are shifted for the energy: fewer than for the recursions
 abbrev pub energy_bits : ℤ → ℤ
-energy_bits s = sub_of s ENERGY_BITS
+energy_bits s = sub_of s fewer_bits
 
 -- the energy of the frame
 abbrev pub energy_of : ℤ → List ℤ → ℤ
@@ -102,7 +102,7 @@ is_pair p n e low high =
     let least = l_mult_of (word_at p 2) (word_at p 2) in
     let l = normal_of n low in
     let h = normal_of n high in
-    let whole = mult_of (shl_of (word_at p 0) SHARE_BITS) (normal_of n e) in
+    let whole = mult_of (shl_of (word_at p 0) share_bits) (normal_of n e) in
     let loud = int_le least low && int_le least high in
     let level = int_le (mult_of l (word_at p 3)) h && int_le (mult_of h (word_at p 4)) l in
     let alone = int_le (mult_of (word_at p 6) whole) (add_of l h) in
@@ -110,9 +110,9 @@ is_pair p n e low high =
 
 -- four times the place of the low tone and the place of the high one, and -1 where there is no digit
 unfoldable pub code_by : List ℤ → ℤ → ℤ → Option Tone → Option Tone → ℤ
-code_by p n e (Some low) (Some high) = if is_pair p n e low.level high.level then add_of (shl_of low.place PLACE_BITS) high.place else NO_DIGIT
-code_by p n e (Some low) None = NO_DIGIT
-code_by p n e None high = NO_DIGIT
+code_by p n e (Some low) (Some high) = if is_pair p n e low.level high.level then add_of (shl_of low.place place_bits) high.place else no_digit
+code_by p n e (Some low) None = no_digit
+code_by p n e None high = no_digit
 
 unfoldable pub code_of : List ℤ → ℤ → Levels → Levels → ℤ
 code_of p e low high = let n = norm_l_of e in code_by p n e (tone_of (word_at p 5) n low) (tone_of (word_at p 5) n high)

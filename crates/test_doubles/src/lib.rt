@@ -30,6 +30,7 @@ pub use metered::Metered;
 pub use primed::Primed;
 pub use rogue::{Mixed, Rogue, voices_alone_are_lawful};
 pub use scribbler::Scribbler;
+pub use scribbling::SCRIBBLE;
 pub use slicer::Slicer;
 pub use starts::{Active, Held, activate_in_poison, give_sample, start_in_poison, start_with_fill};
 pub use trial::{SCRIBBLER, Trial};

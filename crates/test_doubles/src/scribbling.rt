@@ -6,7 +6,7 @@ use crate::rogue_records::fill_record;
 use ialg::Lent;
 
 /// What is written into each word.
-const SCRIBBLE: i16 = 0x5b5b;
+pub const SCRIBBLE: i16 = 0x5b5b;
 
 /// Writes over every word that may be written, the object's too.
 pub(crate) fn scribble(mem: &mut Lent<'_>)

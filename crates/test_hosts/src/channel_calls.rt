@@ -1,7 +1,7 @@
 //! A test of channels as a list: each call, and what it is to answer.
 
 use crate::host_calls::{Outcome, parameters, told};
-use ialg::{BLOCK_SAMPLES, Block, Ialg, Refusal};
+use ialg::{BLOCK_SAMPLES, Block, Ctl, Ialg, Refusal, Status};
 use std::process::Abort;
 use voice_channel::{Channels, MEMBERS};
 
@@ -16,6 +16,8 @@ pub(crate) enum Call<'a, M> {
     Feed(u8, &'a [i16], &'a [i16]),
     /// A sample for a channel, and what it tells for it; where it tells nothing, what it gives.
     FeedSample(u8, i16, Option<i16>, &'a [i16]),
+    /// An instance is asked for its words.
+    Get(u8, &'a [i16]),
     Release(u8, Result<bool, Refusal>),
     /// The active member of a group, and how many activations there were.
     Stat(u8, Result<(Option<u8>, u32), Refusal>),
@@ -34,6 +36,10 @@ impl<M: Ialg> Call<'_, M> {
             }
             Call::Feed(c, input, output) => gives(channels, *c, input, output),
             Call::FeedSample(c, x, told, output) => gives_sample(channels, *c, *x, *told, output),
+            Call::Get(i, words) => match channels.control(*i, &Ctl::Get) {
+                Ok(Status::Words(answer)) => answer.as_slice() == *words,
+                _ => false,
+            },
             Call::Release(group, answer) => channels.release(*group) == *answer,
             Call::Stat(group, answer) => channels.stat(*group) == told(*answer),
         }

@@ -1,4 +1,4 @@
-//! An algorithm that writes each of its calls down in a persistent record, and answers them to `get`.
+//! An algorithm that writes each of its calls down in a record that lasts, and answers them to `get`.
 ghost use Rattle.std.specs.Prelude.{◌≡◌, ◌≤◌, [], length};
 ghost use Rattle.std.proofs.Common.{rules};
 ghost use Rattle.std.specs.Cmp.Rules.{comparing};
@@ -24,14 +24,17 @@ pub const DEACTIVATE: i16 = 5;
 
 pub const MOVED: i16 = 6;
 
-/// The number of the diary's record.
+/// The number of the diary's record, where it isn't the object.
 const DIARY: usize = 1;
 
 /// The diary: how many calls there were, and then the calls.
 const DIARY_WORDS: u32 = PARAMETER_WORDS as u32;
 
 /// Its parameters are the words of a scratch record in `daram`, of one in `saram`, and of a write-once record, 0 for none; there are two
-/// of these at most. It gives the samples that it takes, answers its diary to `get`, takes `reset`, and takes no `set`. It keeps no law.
+/// of these at most. Where a fourth parameter is 1 the diary is the object itself, so that there is no other record which lasts. It gives the samples that
+/// it takes, answers its diary to `get`, takes `reset`, and takes no `set`. It keeps no law.
+///
+/// So it can have the records of a filter, of a filter that shares its constants, of a reader, and others.
 #[derive(Clone, Copy, PartialEq, Eq, Debug)]
 pub struct Diary;
 
@@ -50,11 +53,10 @@ impl Ialg for Diary {
 
     fn alg_alloc(&self, p: &Params) -> Option<MemTab> {
         let mut records: ArrayVec<MemRec, TABLE_RECORDS> = ArrayVec::new();
-        records.push(object_record());
-        records.push(record(DIARY_WORDS, Space::Saram, Attr::Persist));
+        push_lasting(&mut records, p.get(3) == Some(&1))?;
+        push_asked(&mut records, p.get(2), Space::External, Attr::WriteOnce)?;
         push_asked(&mut records, p.get(0), Space::Daram, Attr::Scratch)?;
         push_asked(&mut records, p.get(1), Space::Saram, Attr::Scratch)?;
-        push_asked(&mut records, p.get(2), Space::External, Attr::WriteOnce)?;
         MemTab::make(records.as_slice())
     }
 
@@ -122,6 +124,27 @@ fn record(size: u32, space: Space, attr: Attr) -> MemRec {
     }
 }
 
+// Adds the records that last: the object, and the diary beside it or in its place.
+fn push_lasting(records: &mut ArrayVec<MemRec, TABLE_RECORDS>, is_object: bool) -> Option<()> {
+    if is_object {
+        let diary = record(DIARY_WORDS, Space::External, Attr::Persist);
+        records.try_push(diary).ok()
+    } else {
+        records.try_push(object_record()).ok()?;
+        let diary = record(DIARY_WORDS, Space::Saram, Attr::Persist);
+        records.try_push(diary).ok()
+    }
+}
+
+// The number of the diary's record.
+fn diary_of(table: &MemTab) -> usize {
+    if table.len() > 0 && table.get(0).size == DIARY_WORDS {
+        0
+    } else {
+        DIARY
+    }
+}
+
 // Adds a record of that many words, where they are asked for.
 fn push_asked(
     records: &mut ArrayVec<MemRec, TABLE_RECORDS>,
@@ -143,8 +166,9 @@ fn begin(mem: &mut Lent<'_>)
     ensures { SameLoans mem.old mem.new }
 {
     let table = mem.table();
-    if DIARY < table.len() {
-        let record = table.get(DIARY);
+    let diary = diary_of(table);
+    if diary < table.len() {
+        let record = table.get(diary);
         if let Some(Record { k, words }) = mem.take(record.space, record.base) {
             words.fill(0);
             mem.put(k, words);
@@ -157,8 +181,9 @@ fn note(mem: &mut Lent<'_>, call: i16)
     ensures { SameLoans mem.old mem.new }
 {
     let table = mem.table();
-    if DIARY < table.len() {
-        let record = table.get(DIARY);
+    let diary = diary_of(table);
+    if diary < table.len() {
+        let record = table.get(diary);
         if let Some(Record { k, words }) = mem.take(record.space, record.base) {
             write(words, call);
             mem.put(k, words);
@@ -180,10 +205,11 @@ fn write(words: &mut [i16], call: i16) {
 // The calls that were written down, the first one first.
 fn written(mem: &Lent<'_>) -> Words {
     let table = mem.table();
-    if table.len() <= DIARY {
+    let diary = diary_of(table);
+    if table.len() <= diary {
         return Words::new();
     }
-    let record = table.get(DIARY);
+    let record = table.get(diary);
     match mem.read(record.space, record.base) {
         Some(words) => calls(words),
         None => Words::new(),

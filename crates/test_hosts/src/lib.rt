@@ -18,6 +18,8 @@ mod diary;
 #[cfg(test)]
 mod diary_tests;
 #[cfg(test)]
+mod fill_tests;
+#[cfg(test)]
 mod host_calls;
 #[cfg(test)]
 mod host_tests;
