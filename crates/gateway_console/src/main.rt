@@ -10,7 +10,7 @@ use std::process::ExitCode;
 const GATEWAY: About = About {
     name: "gateway_console",
     usage: "gateway_console [OPTIONS] <SCRIPT> <IN OUT> [IN OUT]...",
-    about: "Serves a script of commands over files of 16-bit samples, by instances of dsp_console's kinds and of gain, level and dtmf.",
+    about: "Serves a script of commands over files of 16-bit samples, by instances of dsp_console's kinds and of gain, level, dtmf, echo, adpcm and signal.",
 };
 
 fn main(rt: HostRuntime) -> ExitCode {

@@ -1,5 +1,5 @@
 -- How the words of an instance of a gateway's kind keep its history, which is as its kind does.
-use Rattle.std.specs.Prelude.{[]}
+use Rattle.std.specs.Prelude.{ℕ, ℤ, List, []}
 use Rattle.ialg.specs.declared.TheConstants.{FILTER_RECORDS}
 use Rattle.ialg.specs.Filters as filters
 use Rattle.ialg.specs.Laws.{Laws, Relation}
@@ -20,7 +20,22 @@ use Rattle.alg_dtmf.specs.declared.detector.Dtmf.{Dtmf}
 use Rattle.alg_dtmf.specs.declared.TheConstants.{DTMF_KIND}
 use Rattle.alg_dtmf.specs.Meaning.{dtmf_memory}
 use Rattle.alg_dtmf.specs.Keeps as dtmf
-use Rattle.gateway_kinds.specs.Kinds.{Kind, kind_meaning, gain_filter, level_filter}
+use Rattle.kind_steps.specs.declared.recursion.Recursive.{Recursive}
+use Rattle.kind_steps.specs.Pairings.{two_samples}
+use Rattle.kind_steps.specs.Recursions.{RestsByRecursion, RunsByRecursion}
+use Rattle.kind_steps.specs.Steppings.{RestsInSteps, RunsInSteps}
+use Rattle.echo_kernel.specs.Equation.{is_canceller}
+use Rattle.echo_kernel.specs.Keeps as echo
+use Rattle.alg_echo.specs.declared.TheConstants.{ECHO_KIND}
+use Rattle.adpcm_kernel.specs.Subblocks as adpcm
+use Rattle.alg_adpcm.specs.declared.TheConstants as adpcm_words
+use Rattle.alg_adpcm.specs.declared.coder.Coding.{Coding}
+use Rattle.alg_adpcm.specs.Meaning.{coder_named}
+use Rattle.alg_adpcm.specs.Words as coder
+use Rattle.alg_signal.specs.declared.TheConstants as signal_words
+use Rattle.alg_signal.specs.declared.generator.Generator.{Generator}
+use Rattle.alg_signal.specs.Tones as tones
+use Rattle.gateway_kinds.specs.Kinds.{Canceling, Kind, kind_meaning, gain_filter, level_filter, echo_filter, adpcm_filter, signal_filter}
 
 abbrev pub gain_idle : Relation (Mapped Amplifier)
 gain_idle _ p rs wss h = filters.IsIdle GAIN_KIND (gain_filter.memory p) (Maps is_factor p h) rs wss
@@ -40,18 +55,48 @@ dtmf_idle _ p rs wss h = filters.IsIdle DTMF_KIND (dtmf_memory p) (dtmf.Rests p 
 abbrev pub dtmf_active : Relation Dtmf
 dtmf_active _ p rs wss h = filters.IsActive DTMF_KIND (dtmf_memory p) (dtmf.Runs p h) rs wss
 
+abbrev pub echo_idle : Relation Canceling
+echo_idle _ p rs wss h = filters.IsIdle ECHO_KIND (echo_filter.memory p) (RestsInSteps two_samples echo.state_words is_canceller echo.words_of p h) rs wss
+
+abbrev pub echo_active : Relation Canceling
+echo_active _ p rs wss h = filters.IsActive ECHO_KIND (echo_filter.memory p) (RunsInSteps two_samples echo.state_words is_canceller echo.words_of p h) rs wss
+
+abbrev pub adpcm_idle : Relation (Recursive Coding)
+adpcm_idle _ p rs wss h =
+    filters.IsIdle adpcm_words.ADPCM_KIND (adpcm_filter.memory p) (RestsByRecursion adpcm.initial_state adpcm.taken adpcm_words.STATE_WORDS coder_named coder.words_of p h) rs wss
+
+abbrev pub adpcm_active : Relation (Recursive Coding)
+adpcm_active _ p rs wss h =
+    filters.IsActive adpcm_words.ADPCM_KIND (adpcm_filter.memory p) (RunsByRecursion adpcm.initial_state adpcm.taken adpcm_words.STATE_WORDS coder_named coder.words_of p h) rs wss
+
+abbrev pub signal_idle : Relation (Recursive Generator)
+signal_idle _ p rs wss h =
+    filters.IsIdle signal_words.SIGNAL_KIND (signal_filter.memory p) (RestsByRecursion tones.initial_tones tones.taken signal_words.STATE_WORDS tones.cadence_named tones.words_of p h) rs wss
+
+abbrev pub signal_active : Relation (Recursive Generator)
+signal_active _ p rs wss h =
+    filters.IsActive signal_words.SIGNAL_KIND (signal_filter.memory p) (RunsByRecursion tones.initial_tones tones.taken signal_words.STATE_WORDS tones.cadence_named tones.words_of p h) rs wss
+
 abbrev pub IsIdle : Relation Kind
-IsIdle k = either_refines voice.IsIdle (either_refines gain_idle (either_refines level_idle dtmf_idle)) k.kind
+IsIdle k = either_refines voice.IsIdle (either_refines gain_idle (either_refines level_idle (either_refines dtmf_idle (either_refines echo_idle (either_refines adpcm_idle signal_idle))))) k.kind
 
 abbrev pub IsActive : Relation Kind
-IsActive k = either_refines voice.IsActive (either_refines gain_active (either_refines level_active dtmf_active)) k.kind
+IsActive k =
+    either_refines voice.IsActive (either_refines gain_active (either_refines level_active (either_refines dtmf_active (either_refines echo_active (either_refines adpcm_active signal_active))))) k.kind
+
+-- a filter has no more records, and none that is write-once
+abbrev pub filter_bound : {A : Type 0} → A → ℕ
+filter_bound _ = FILTER_RECORDS
+
+abbrev pub no_fill : {A : Type 0} → A → List ℤ → ℕ → List ℤ
+no_fill _ p k = []
 
 -- what the kinds mean, and what keeps a history of an instance of one
 abbrev pub kind_laws : Laws Kind
 kind_laws = record {
   meaning = kind_meaning;
-  bound = λ k. told voice.voice_bound (told (λ _. FILTER_RECORDS) (told (λ _. FILTER_RECORDS) (λ _. FILTER_RECORDS))) k.kind;
-  fill = λ k. told voice.voice_fill (told (λ _ p k. []) (told (λ _ p k. []) (λ _ p k. []))) k.kind;
+  bound = λ k. told voice.voice_bound (told filter_bound (told filter_bound (told filter_bound (told filter_bound (told filter_bound filter_bound))))) k.kind;
+  fill = λ k. told voice.voice_fill (told no_fill (told no_fill (told no_fill (told no_fill (told no_fill no_fill))))) k.kind;
   idle_refines = IsIdle;
   active_refines = IsActive;
 }

@@ -6,18 +6,22 @@ ghost use Rattle.gateway_kinds.specs.Kinds.{in_gateway};
 ghost use Rattle.gateway_kinds.specs.Keeps.{kind_laws};
 ghost use Rattle.gateway_kinds.specs.Kept.{idle_words, active_words, idle_fill, active_fill};
 
+use alg_adpcm::Adpcm;
 use alg_dtmf::Dtmf;
+use alg_echo::Echo;
 use alg_gain::Gain;
 use alg_level::Level;
+use alg_signal::Signal;
 use ialg::{Block, Ctl, Ialg, Lent, Named, Params, Status};
 use kind_parts::Or;
 use mem_rec::MemTab;
 use voice_set::Voice;
 
 /// The sets of kinds, in the order in which a name is looked for.
-pub type Sets = Or<Voice, Or<Gain, Or<Level, Dtmf>>>;
+pub type Sets = Or<Voice, Or<Gain, Or<Level, Or<Dtmf, Or<Echo, Or<Adpcm, Signal>>>>>>;
 
-/// A kind that a gateway hosts: `fir`, `decim`, `biquad`, `tone`, `g711`, `gain`, `level` or `dtmf`. Each call is that of the kind.
+/// A kind that a gateway hosts: `fir`, `decim`, `biquad`, `tone`, `g711`, `gain`, `level`, `dtmf`, `echo`, `adpcm` or `signal`. Each call is
+/// that of the kind.
 ///
 /// It is a struct and not an alias of its sets, so that what is built over a gateway's kinds, as the library for C is, is checked over one type, and
 /// not over each set again.

@@ -12,7 +12,7 @@ from dataclasses import replace
 from typing import Sequence
 
 from .command_line import PortsError, UsageError, arguments, config_of
-from .console import FAULT_STATUS, STATUS_LINE, Fault, run
+from .console import FAULT_STATUS, Fault, run, status_line
 from .ports import FileIn, FileOut
 from .sets import HOSTED
 
@@ -25,8 +25,8 @@ def _own_options(words: list[str]) -> tuple[str, str]:
     return own["--kinds"], own["--form"]
 
 
-def _failed(cause: str, status: int) -> int:
-    print(STATUS_LINE[cause], file=sys.stderr)
+def _failed(cause: str, status: int, kinds: str) -> int:
+    print(status_line(cause, kinds), file=sys.stderr)
     return status
 
 
@@ -40,7 +40,7 @@ def main(given: Sequence[str]) -> int:
         print(f"error: {error}", file=sys.stderr)
         return 2
     except PortsError:
-        return _failed("ports", 2)
+        return _failed("ports", 2, kinds)
     ins, outs = [], []
     try:
         script = FileIn(os.open(asked.script, os.O_RDONLY))
@@ -49,13 +49,13 @@ def main(given: Sequence[str]) -> int:
             try:
                 outs.append(FileOut(os.open(sink, os.O_WRONLY | os.O_CREAT | os.O_TRUNC, 0o666)))
             except OSError:
-                return _failed("write", 4)
+                return _failed("write", 4, kinds)
     except OSError:
-        return _failed("read", 3)
+        return _failed("read", 3, kinds)
     try:
         refused = run(replace(config_of(asked), kinds=kinds, form=form), script, ins, outs, FileOut(1))
     except Fault as fault:
-        return _failed(fault.cause, FAULT_STATUS[fault.cause])
+        return _failed(fault.cause, FAULT_STATUS[fault.cause], kinds)
     return 1 if refused else 0
 
 

@@ -15,7 +15,7 @@ from pathlib import Path
 from typing import Optional
 
 from .command_line import option_words, port_words
-from .console import FAULT_STATUS, STATUS_LINE, Config, Served, Undetermined, serve_with_undetermined
+from .console import FAULT_STATUS, Config, Served, Undetermined, serve_with_undetermined, status_line
 from .sets import HOSTED
 
 ABOUT = ("note", "kinds", "stale", "piped", "any_replies", "any_outputs")
@@ -62,7 +62,7 @@ def case_of(config: Config, script: bytes, inputs: list[bytes], served: Served, 
     stderr = b""
     if served.status > 1:
         cause = next(cause for cause, status in FAULT_STATUS.items() if status == served.status)
-        stderr = STATUS_LINE[cause].encode() + b"\n"
+        stderr = status_line(cause, config.kinds).encode() + b"\n"
     return Case(option_words(config) + port_words(len(inputs)), script, inputs, served.replies, served.outputs, served.status,
                 stderr, note, config.kinds, any_replies=undetermined.replies,
                 any_outputs={str(c): ranges for c, ranges in undetermined.outputs.items()})

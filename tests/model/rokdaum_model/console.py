@@ -12,7 +12,7 @@ from .memory import SPACE_WORDS_MAX, TALLY_MAX, valid_space
 from .ports import PortFault, TapeIn, TapeOut
 from .refusals import Refusal, Refused
 from .script import LINE_MAX, Command, Grammar
-from .sets import HOSTED, MIXED
+from .sets import GATEWAY_SET, HOSTED, MIXED
 from .voices import UNKNOWN
 
 SCRIPT_BYTES_MAX = 1_000_000_000
@@ -236,14 +236,20 @@ def run(config: Config, script, inputs: Sequence, outputs: Sequence, replies,
 
 
 FAULT_STATUS = {"size": 2, "read": 3, "write": 4, "memory": 5}
-STATUS_LINE = {
-    "ports": "dsp_console: ports come in pairs, 1 to 16",
-    "utf8": "dsp_console: an argument isn't UTF-8",
-    "size": "dsp_console: a space is 0 to 65536 words, a multiple of 4",
-    "read": "dsp_console: read failed",
-    "write": "dsp_console: write failed",
-    "memory": "dsp_console: out of memory",
+PROGRAM_NAMES = {HOSTED: "dsp_console", MIXED: "mixed_console", GATEWAY_SET: "gateway_console"}
+FAULT_TEXT = {
+    "ports": "ports come in pairs, 1 to 16",
+    "utf8": "an argument isn't UTF-8",
+    "size": "a space is 0 to 65536 words, a multiple of 4",
+    "read": "read failed",
+    "write": "write failed",
+    "memory": "out of memory",
 }
+
+
+def status_line(cause: str, kinds: str = HOSTED) -> str:
+    """The line on the standard error by which the program of a set of kinds says why it ended."""
+    return f"{PROGRAM_NAMES[kinds]}: {FAULT_TEXT[cause]}"
 
 
 class Served(NamedTuple):

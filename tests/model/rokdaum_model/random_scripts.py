@@ -13,6 +13,7 @@ from typing import Callable, Optional
 
 from .console import Config, Served, Session, Undetermined
 from .gateway import GATEWAY
+from .gateway_states import STATEFUL
 from .kinds import FEED_MAX
 from .memory import valid_space
 from .ports import TapeIn, TapeOut
@@ -140,6 +141,8 @@ class Writer:
             return [self.mostly(rng.randint(0, 1), rng.choice((2, -1)), 0.04), rng.randint(0, 1)]
         if kind in GATEWAY:
             return self.gateway_parameters(kind)
+        if kind in STATEFUL:
+            return self.stateful_parameters(kind)
         return []   # the kinds that break the laws take none
 
     def gateway_parameters(self, kind: str) -> list[int]:
@@ -153,6 +156,17 @@ class Writer:
         if kind == "level":
             return head
         return head + rng.choice(([91, 2920, 7336, 5827, 22938], [0, 0, 0, 32767, 0], self.coefficients(5)))
+
+    def stateful_parameters(self, kind: str) -> list[int]:
+        """Parameters of an echo canceller, an ADPCM coder or a generator of tones."""
+        rng = self.rng
+        if kind == "echo":
+            taps = self.mostly(rng.choice((1, 2, 3, 5, 8, 16, 33, 128, 256)), rng.choice((0, 257, -1)), 0.04)
+            return [taps] + rng.choice(([8192, 16384, 240], [8192, 0, 3], [32767, 32767, 0], self.coefficients(3)))
+        if kind == "adpcm":
+            return [self.mostly(rng.choice((16, 24, 32, 40)), rng.choice((0, 8, 64, -16)), 0.04), self.mostly(rng.randint(0, 1), rng.choice((2, -1)), 0.04)]
+        tones = rng.choice(([26956, 4660, 16325, 7102], [27980, 3000, 0, 0], self.coefficients(4)))
+        return tones + [rng.choice((0, 1, 3, 8, 40, 400, 32767)), rng.choice((0, 1, 2, 8, 60, 32767, -3)), rng.choice((0, 0, 1, 2, 5, -1))]
 
     # Numbers of things
 

@@ -4,6 +4,7 @@
 from __future__ import annotations
 
 from .gateway import GATEWAY
+from .gateway_states import STATEFUL
 from .kinds import LAWFUL, Kind
 from .rogues import ROGUES
 
@@ -15,4 +16,4 @@ PROGRAMS = {HOSTED: "dsp_console_main", MIXED: "mixed_console", GATEWAY_SET: "ga
 
 def kinds_by_name(kinds: str) -> dict[str, Kind]:
     """The kinds of a set, which a script may name."""
-    return {**LAWFUL, **{HOSTED: {}, MIXED: ROGUES, GATEWAY_SET: GATEWAY}[kinds]}
+    return {**LAWFUL, **{HOSTED: {}, MIXED: ROGUES, GATEWAY_SET: {**GATEWAY, **STATEFUL}}[kinds]}

@@ -1,0 +1,3 @@
+pub mod Meaning
+pub mod Words
+pub mod Rows

@@ -1,0 +1,2 @@
+pub mod Tones
+pub mod Rows

@@ -1,0 +1,4 @@
+pub mod Numbers
+pub mod Equation
+pub mod Keeps
+pub mod Sums

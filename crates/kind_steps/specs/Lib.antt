@@ -1,0 +1,3 @@
+pub mod Steppings
+pub mod Pairings
+pub mod Recursions
