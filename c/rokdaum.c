@@ -1,7 +1,7 @@
 /* SPDX-License-Identifier: Apache-2.0
  *
  * The layer between C and the proved entry points. Nothing here is proved: it tests for null pointers, keeps the allocator at hand
- * while a host is opened or closed, and says in words what a code means.
+ * while a host is opened or closed, says in words what a code means, and has the rule by which codes are dialled digits.
  *
  * ROKDAUM_NO_HEAP leaves malloc and free out: rokdaum_open then answers ROKDAUM_NO_MEMORY, and rokdaum_open_with needs an allocator.
  * ROKDAUM_ONE_THREAD keeps the allocator in a plain static, for targets without thread-local storage. */
@@ -33,7 +33,7 @@ struct allocated rattle_alloc(size_t size, size_t align);
 struct allocated rattle_realloc(void *memory, size_t kept, size_t size, size_t align);
 void rattle_dealloc(void *memory);
 
-static char nowhere;
+static const char nowhere;
 /* Whose memory serves while a host is opened or closed. An allocator may open another host meanwhile. */
 static PER_THREAD const rokdaum_allocator *current;
 
@@ -67,14 +67,14 @@ static const rokdaum_allocator heap = {heap_allocate, heap_release, 0};
 struct allocated rattle_alloc(size_t size, size_t align)
 {
     void *at = current->allocate(current->context, size ? size : align, align);
-    return (struct allocated){at != 0, at ? at : &nowhere};
+    return (struct allocated){at != 0, at ? at : (void *)&nowhere};
 }
 
 /* The library grows no block: it is linked, and never called. */
 struct allocated rattle_realloc(void *memory, size_t kept, size_t size, size_t align)
 {
     (void)memory, (void)kept, (void)size, (void)align;
-    return (struct allocated){false, &nowhere};
+    return (struct allocated){false, (void *)&nowhere};
 }
 
 void rattle_dealloc(void *memory)
@@ -322,4 +322,48 @@ rokdaum_code rokdaum_g711_encode(rokdaum_law law, const int16_t *samples, uint8_
 rokdaum_code rokdaum_g711_decode(rokdaum_law law, const uint8_t *codes, int16_t *samples, size_t count)
 {
     return (samples && codes) || !count ? (rokdaum_code)rokdaum_proved_g711_decode((uint32_t)law, codes, count, samples, count) : ROKDAUM_NULL;
+}
+
+/* ---- Dialled digits ---- */
+
+enum { NO_DIGIT = -1, KEYS = sizeof ROKDAUM_DTMF_KEYS - 1 };
+
+/* One more, where that is still told apart from `most`. */
+static uint32_t counted_to(uint32_t most, uint32_t so_far)
+{
+    return so_far < most ? so_far + 1 : most;
+}
+
+/* Whether a digit begins with the frame that has this code. */
+static bool begins(rokdaum_digits *digits, int16_t code)
+{
+    digits->run = counted_to(digits->frames_on, code == digits->last ? digits->run : 0);
+    digits->last = code;
+    digits->away = code == digits->held ? 0 : counted_to(digits->frames_off, digits->away);
+    if (digits->away >= digits->frames_off)
+        digits->held = NO_DIGIT;
+    if (code == NO_DIGIT || code == digits->held || digits->run < digits->frames_on)
+        return false;
+    digits->held = code;
+    digits->away = 0;
+    return true;
+}
+
+rokdaum_code rokdaum_dialled(rokdaum_digits *digits, const int16_t *codes, size_t count, char *dialled, size_t room, size_t *given)
+{
+    if (!digits || (!codes && count) || (!dialled && room) || !given)
+        return ROKDAUM_NULL;
+    if (room < count)
+        return ROKDAUM_BAD_LENGTH;
+    if (!digits->frames_on || !digits->frames_off)
+        return ROKDAUM_PARAMS;
+    for (size_t k = 0; k < count; k++)
+        if (codes[k] < NO_DIGIT || codes[k] >= KEYS)
+            return ROKDAUM_PARAMS;
+    size_t found = 0;
+    for (size_t k = 0; k < count; k++)
+        if (begins(digits, codes[k]))
+            dialled[found++] = ROKDAUM_DTMF_KEYS[codes[k]];
+    *given = found;
+    return ROKDAUM_OK;
 }

@@ -16,8 +16,8 @@
  *
  * MEMORY. rokdaum_open allocates, and rokdaum_close frees. No other call does either.
  *
- * THREADS. Use a handle in the thread that opened it, one call at a time. Handles in different threads are independent. Call nothing
- * here from a signal handler. */
+ * THREADS. One call at a time for each handle. Threads that hand a handle on order their calls, by a lock, a queue or a join: a handle has
+ * no thread of its own. Handles are independent of each other. Call nothing here from a signal handler. */
 #ifndef ROKDAUM_H
 #define ROKDAUM_H
 
@@ -54,7 +54,7 @@ typedef enum rokdaum_code {
     ROKDAUM_NULL = 24        /* a pointer is null */
 } rokdaum_code;
 
-/* The algorithms, each with its parameters. docs/C.md tells more of the last three, and docs/SCRIPTS.md of the others. */
+/* The algorithms, each with its parameters. docs/SCRIPTS.md explains them, and examples/dtmf_line the detector. */
 typedef enum rokdaum_kind {
     ROKDAUM_FIR = 0,    /* FIR filter: 1 to 64 coefficients in Q15 */
     ROKDAUM_DECIM = 1,  /* decimator: a factor of 1 to 16, then 1 to 64 coefficients in Q15 */
@@ -63,17 +63,31 @@ typedef enum rokdaum_kind {
     ROKDAUM_G711 = 4,   /* G.711: the law (0 A, 1 mu), then 0 to encode or 1 to decode */
     ROKDAUM_GAIN = 5,   /* gain: a factor in Q12, which `set` changes */
     ROKDAUM_LEVEL = 6,  /* energy of each frame: a frame of 1 to 1,024 samples, a shift of 0 to 15 */
-    ROKDAUM_DTMF = 7    /* dialled digits: a frame of 1 to 127 samples, a shift of 0 to 14, the threshold, the two limits of twist, the
+    ROKDAUM_DTMF = 7,   /* dialled digits: a frame of 1 to 127 samples, a shift of 0 to 14, the threshold, the two limits of twist, the
                            dominance and the share; ROKDAUM_DTMF_A and ROKDAUM_DTMF_B are recommended */
+    ROKDAUM_ECHO = 8,   /* line echo canceller over pairs, the far end's sample first: 1 to 256 coefficients, the step in Q15, the share in
+                           Q15 of the far end from which on the near end talks, and the pairs for which it then doesn't learn */
+    ROKDAUM_ADPCM = 9,  /* G.726: 16, 24, 32 or 40 kbit/s, then 0 to encode or 1 to decode */
+    ROKDAUM_SIGNAL = 10 /* tones with a cadence: k1 s1 k2 s2, the samples on and off, the number of cycles or 0 */
 } rokdaum_kind;
 
-/* Parameters of a detector of digits, at 8,000 samples a second. With A a digit counts where two frames in a row have it, with B where
- * three have; it may count again once two frames in a row haven't. */
+/* Parameters of a detector of digits, at 8,000 samples a second. */
 #define ROKDAUM_DTMF_A {102, 7, 91, 2920, 7336, 5827, 22938}
 #define ROKDAUM_DTMF_B {92, 7, 82, 2920, 7336, 9235, 20316}
 
 /* A detector gives one of these places for each frame, or -1 for a frame without a digit. */
 #define ROKDAUM_DTMF_KEYS "123A456B789C*0#D"
+
+/* What makes dialled digits of such codes, and what it remembers of a line: a digit counts once `frames_on` frames in a row have it, and
+ * may count again once `frames_off` in a row haven't. Begin with the values that belong to the detector's, A or B; the four members
+ * behind them are the library's own. */
+typedef struct rokdaum_digits {
+    uint32_t frames_on, frames_off; /* 1 or more */
+    int32_t last, held;
+    uint32_t run, away;
+} rokdaum_digits;
+#define ROKDAUM_DIGITS_A {2, 2, -1, -1, 0, 0}
+#define ROKDAUM_DIGITS_B {3, 2, -1, -1, 0, 0}
 
 typedef enum rokdaum_space { ROKDAUM_DARAM = 0, ROKDAUM_SARAM = 1, ROKDAUM_EXTERNAL = 2 } rokdaum_space;
 
@@ -158,8 +172,8 @@ rokdaum_code rokdaum_create(rokdaum *host, uint8_t instance, rokdaum_kind kind, 
 rokdaum_code rokdaum_delete(rokdaum *host, uint8_t instance);
 
 /* The control commands. `set` puts up to 72 words into force; `reset` makes an instance forget its past samples; `get` writes the
- * words of its answer to `words`, which has room for 72, and their number to `*count`. They refuse with RANGE, MISSING, COMMAND and
- * BAD_LENGTH. */
+ * words of its answer to `words`, which has room for 72, and their number to `*count`; what stands behind them then is undefined. They
+ * refuse with RANGE, MISSING, COMMAND and BAD_LENGTH. */
 rokdaum_code rokdaum_set(rokdaum *host, uint8_t instance, const int16_t *words, size_t count);
 rokdaum_code rokdaum_reset(rokdaum *host, uint8_t instance);
 rokdaum_code rokdaum_get(rokdaum *host, uint8_t instance, int16_t *words, size_t room, uint32_t *count);
@@ -177,7 +191,8 @@ rokdaum_code rokdaum_unchain(rokdaum *host, uint8_t channel);
 rokdaum_code rokdaum_ready(rokdaum *host, uint8_t channel);
 
 /* Passes a block of 1 to 1,024 samples through the members of a channel. What the last member gives is written to `out`, and its
- * number, which is never above `count`, to `*given`. `out` has room for `count` samples. Refuses with RANGE, MISSING and BAD_LENGTH. */
+ * number, which is never above `count`, to `*given`; what stands behind it is undefined. `out` has room for `count` samples. Refuses
+ * with RANGE, MISSING and BAD_LENGTH. */
 inline rokdaum_code rokdaum_feed(rokdaum *host, uint8_t channel, const int16_t *samples, size_t count, int16_t *out, size_t room, uint32_t *given);
 
 /* The same for any number of samples, in blocks of 1,024. How samples are cut into blocks doesn't show in the output. */
@@ -194,7 +209,8 @@ rokdaum_code rokdaum_compact(rokdaum *host, rokdaum_space space, uint32_t *moved
 /* How many words all moves of this host have copied. */
 rokdaum_code rokdaum_copied(rokdaum *host, uint64_t *words);
 
-/* The blocks of a space in ascending place. `blocks` has room for 264, and `*count` is how many there are. */
+/* The blocks of a space in ascending place. `blocks` has room for 264, and `*count` is how many there are; what stands behind them then is
+ * undefined. */
 rokdaum_code rokdaum_map(rokdaum *host, rokdaum_space space, rokdaum_block *blocks, size_t room, uint32_t *count);
 
 /* Deactivates the active member of a scratch group. `*released` is 1 where there was one, and else 0. */
@@ -203,7 +219,7 @@ rokdaum_code rokdaum_release(rokdaum *host, uint8_t group, uint32_t *released);
 /* `*active` is the active member of a group, or -1, and `*activations` how often one was activated. */
 rokdaum_code rokdaum_stat(rokdaum *host, uint8_t group, int32_t *active, uint32_t *activations);
 
-/* ---- Without a host: operators of ITU-T G.191, and G.711 ---- */
+/* ---- Without a host: operators of ITU-T G.191, G.711, and dialled digits ---- */
 
 /* The sum of a and b, saturated (`add`). */
 int16_t rokdaum_add(int16_t a, int16_t b);
@@ -227,12 +243,18 @@ rokdaum_code rokdaum_l_mac_block(int32_t v, const int16_t *a, const int16_t *b, 
 
 /* A FIR filter over a block of up to 1,024 samples, without a host: 1 to 64 coefficients in Q15, that of the newest sample first.
  * `line` has the samples before the block, one fewer than there are coefficients, and then the block. Its length is at least 63 above
- * `count`; what stands behind the block isn't heard. Refuses with ROKDAUM_BAD_LENGTH. */
+ * `count`; words after the block do not affect the output. Refuses with ROKDAUM_BAD_LENGTH. */
 rokdaum_code rokdaum_fir(const int16_t *coefficients, size_t coefficient_count, const int16_t *line, size_t length, int16_t *out, size_t count);
 
 /* A code for each sample, and a sample for each code. There are `count` of both. */
 rokdaum_code rokdaum_g711_encode(rokdaum_law law, const int16_t *samples, uint8_t *codes, size_t count);
 rokdaum_code rokdaum_g711_decode(rokdaum_law law, const uint8_t *codes, int16_t *samples, size_t count);
+
+/* The digits that begin with the frames of these codes, which a detector gave one after the other: their keys are written to `dialled`,
+ * without a 0 behind them, and how many they are, which is never above `count`, to `*given`. `dialled` has room for `count`. How codes are
+ * cut into calls doesn't show in the digits. Refuses with BAD_LENGTH, and with PARAMS where a code isn't -1 to 15 or a number of frames
+ * is 0. */
+rokdaum_code rokdaum_dialled(rokdaum_digits *digits, const int16_t *codes, size_t count, char *dialled, size_t room, size_t *given);
 
 /* ---- Inline ---- */
 

@@ -2,22 +2,16 @@
  * The digits that were dialled in a file of samples of 16 bits, the low byte first, 8,000 a second, on the standard input. Without
  * input it dials 1 5 9 # 0 itself.
  *
- * One instance of the detector hears the line, and gives a code for each frame of 102 samples. */
+ * One instance of the detector hears the line and gives a code for each frame of 102 samples; rokdaum_dialled makes digits of them. */
 #include <math.h>
 #include <rokdaum.h>
 #include <stdio.h>
 #include <stdlib.h>
 
-enum { RATE = 8000, BLOCK = 160, FRAMES_ON = 2, FRAMES_OFF = 2, NO_DIGIT = -1, TONE_BLOCKS = 4, PAUSE_BLOCKS = 4 };
+enum { RATE = 8000, BLOCK = 160, TONE_BLOCKS = 4, PAUSE_BLOCKS = 4 };
 static const double PI = 3.14159265358979323846;
 static const int frequencies[8] = {697, 770, 852, 941, 1209, 1336, 1477, 1633};
 static const char keys[] = ROKDAUM_DTMF_KEYS;
-
-/* What was heard so far: the code of the last frame and how many in a row had it, the digit that is held down, and for how many frames
- * it hasn't been there. */
-struct heard {
-    int last, run, held, away;
-};
 
 static void must(rokdaum_code code)
 {
@@ -37,32 +31,19 @@ static void open_receiver(rokdaum *host)
     must(rokdaum_chain(host, 0, members, 1));
 }
 
-/* A digit counts once two frames in a row have it. It may count again once two frames in a row haven't. */
-static void frame(struct heard *heard, int code)
-{
-    heard->run = code == heard->last ? heard->run + 1 : 1;
-    heard->last = code;
-    heard->away = code == heard->held ? 0 : heard->away + 1;
-    if (heard->away >= FRAMES_OFF)
-        heard->held = NO_DIGIT;
-    if (code != NO_DIGIT && code != heard->held && heard->run >= FRAMES_ON) {
-        putchar(keys[code]);
-        heard->held = code;
-        heard->away = 0;
-    }
-}
-
-static void hear(rokdaum *host, struct heard *heard, const int16_t *in, size_t count)
+static void hear(rokdaum *host, rokdaum_digits *digits, const int16_t *in, size_t count)
 {
     int16_t codes[BLOCK];
-    uint32_t n;
-    must(rokdaum_feed(host, 0, in, count, codes, BLOCK, &n));
-    for (uint32_t k = 0; k < n; k++)
-        frame(heard, codes[k]);
+    char dialled[BLOCK];
+    uint32_t frames;
+    size_t n;
+    must(rokdaum_feed(host, 0, in, count, codes, BLOCK, &frames));
+    must(rokdaum_dialled(digits, codes, frames, dialled, BLOCK, &n));
+    fwrite(dialled, 1, n, stdout);
 }
 
 /* A key for 80 ms, and then nothing for 80 ms. */
-static void dial(rokdaum *host, struct heard *heard, char key)
+static void dial(rokdaum *host, rokdaum_digits *digits, char key)
 {
     int16_t in[BLOCK];
     int at = 0;
@@ -73,14 +54,14 @@ static void dial(rokdaum *host, struct heard *heard, char key)
             double t = 2 * PI * (block * BLOCK + i) / RATE;
             in[i] = block < TONE_BLOCKS ? (int16_t)(6000 * sin(frequencies[at / 4] * t) + 6000 * sin(frequencies[4 + at % 4] * t)) : 0;
         }
-        hear(host, heard, in, BLOCK);
+        hear(host, digits, in, BLOCK);
     }
 }
 
 int main(void)
 {
     rokdaum host = ROKDAUM_CLOSED;
-    struct heard heard = {NO_DIGIT, 0, NO_DIGIT, 0};
+    rokdaum_digits digits = ROKDAUM_DIGITS_A;
     unsigned char bytes[2 * BLOCK];
     int16_t in[BLOCK];
     size_t got, all = 0;
@@ -88,11 +69,11 @@ int main(void)
     while ((got = fread(bytes, 2, BLOCK, stdin)) > 0) {
         for (size_t i = 0; i < got; i++)
             in[i] = (int16_t)(bytes[2 * i] | bytes[2 * i + 1] << 8);
-        hear(&host, &heard, in, got);
+        hear(&host, &digits, in, got);
         all += got;
     }
     for (const char *key = "159#0"; all == 0 && *key; key++)
-        dial(&host, &heard, *key);
+        dial(&host, &digits, *key);
     putchar('\n');
     must(rokdaum_close(&host));
     return 0;

@@ -1,13 +1,14 @@
 /* SPDX-License-Identifier: Apache-2.0
- * Gains, meters of energy and detectors of digits, beside sums written out here, and each of the eight kinds once. */
+ * Gains, meters of energy, detectors of digits, echo cancellers, G.726 and generators, beside what is written out here, and each kind once. */
 #include "rokdaum.h"
 #include "wanted.h"
 #include <math.h>
+#include <string.h>
 
 enum { N = 1024, FRAME = 100, SHIFT = 3 };
 
 static rokdaum host = ROKDAUM_CLOSED;
-static int16_t in[N], out[N], words[72];
+static int16_t in[N], out[N], tones[N], words[72];
 static uint32_t n;
 
 static void fill(void)
@@ -73,7 +74,6 @@ static void levels(void)
 static void digits(uint8_t i, const int16_t *parameters)
 {
     static const double low[4] = {697, 770, 852, 941}, high[4] = {1209, 1336, 1477, 1633};
-    static int16_t tones[4 * 127];
     const double turn = 2 * 3.14159265358979323846 / 8000;
     make(i, ROKDAUM_DTMF, parameters, 7);
     for (int key = 0; key < 16; key++) {
@@ -91,9 +91,93 @@ static void digits(uint8_t i, const int16_t *parameters)
     }
 }
 
+/* The far end comes back two samples later and at half its level: after a second hardly any of it is left, and the near end is heard. */
+static void echoes(void)
+{
+    static const int16_t parameters[4] = {16, 16384, 16384, 240};
+    static int16_t far[N / 2];
+    int64_t left = 0;
+    make(4, ROKDAUM_ECHO, parameters, 4);
+    want("silence isn't a parameter", rokdaum_create(&host, 5, ROKDAUM_ECHO, 0, (const int16_t[]){0, 1, 1, 1}, 4, 0), ROKDAUM_PARAMS);
+    for (int block = 0; block < 32; block++) {
+        left = 0;
+        for (int i = 0; i < N / 2; i++) {
+            int16_t x = (int16_t)((int32_t)((uint32_t)(block * (N / 2) + i) * 2654435761u) >> 18);
+            int16_t echo = i < 2 ? (int16_t)(far[N / 2 - 2 + i] / 2) : (int16_t)(far[i - 2] / 2);
+            tones[2 * i] = x;
+            tones[2 * i + 1] = echo;
+            far[i] = x;
+        }
+        want("feed pairs", rokdaum_feed(&host, 4, tones, N, out, N, &n), ROKDAUM_OK);
+        want("one for each pair", n, N / 2);
+        for (int i = 0; i < N / 2; i++)
+            left += (int64_t)out[i] * out[i];
+    }
+    want("the echo is gone: less than 4 of 2,000 on the average", left < 16 * N / 2, 1);
+    for (int i = 0; i < N; i++)
+        tones[i] = (int16_t)(i % 2 ? i : 0);
+    want("feed the near end alone", rokdaum_feed(&host, 4, tones, N, out, N, &n), ROKDAUM_OK);
+    want("the near end is as it was", out[N / 2 - 1], N - 1);
+    want("set", rokdaum_set(&host, 4, parameters, 4), ROKDAUM_COMMAND);
+}
+
+/* A tone through an encoder and a decoder at each rate: what is lost is less the more bits a code has. */
+static void codes(void)
+{
+    static const int16_t rates[4] = {16, 24, 32, 40};
+    static const int bits[4] = {2, 3, 4, 5};
+    static int16_t code[N];
+    int64_t before = INT64_MAX;
+    for (int i = 0; i < N; i++)
+        in[i] = (int16_t)(8000 * sin(2 * 3.14159265358979323846 * 440 / 8000 * i));
+    for (int r = 0; r < 4; r++) {
+        const uint8_t to = (uint8_t)(5 + 2 * r), from = (uint8_t)(to + 1);
+        int64_t lost = 0;
+        int wide = 0;
+        make(to, ROKDAUM_ADPCM, (const int16_t[]){rates[r], 0}, 2);
+        make(from, ROKDAUM_ADPCM, (const int16_t[]){rates[r], 1}, 2);
+        want("encode", rokdaum_feed(&host, to, in, N, code, N, &n), ROKDAUM_OK);
+        want("decode", rokdaum_feed(&host, from, code, N, out, N, &n), ROKDAUM_OK);
+        for (int i = 0; i < N; i++) {
+            wide += code[i] < 0 || code[i] >> bits[r] != 0;
+            lost += i < N / 2 ? 0 : (int64_t)(out[i] - in[i]) * (out[i] - in[i]);
+        }
+        want("codes that are too wide", wide, 0);
+        want("less is lost than by fewer bits", lost < before, 1);
+        before = lost;
+        want("get", rokdaum_get(&host, from, words, 72, &n), ROKDAUM_OK);
+        want("its parameters", n == 2 && words[0] == rates[r] && words[1] == 1, 1);
+        want("unchain", rokdaum_unchain(&host, to), ROKDAUM_OK);
+        want("unchain", rokdaum_unchain(&host, from), ROKDAUM_OK);
+    }
+    want("hardly anything is lost by five bits", before < (int64_t)N / 2 * 100 * 100, 1);
+    want("no such rate", rokdaum_create(&host, 40, ROKDAUM_ADPCM, 0, (const int16_t[]){48, 0}, 2, 0), ROKDAUM_PARAMS);
+}
+
+/* 100 samples of 440 Hz, 50 of the input, three times over; and the input alone from then on. */
+static void signals(void)
+{
+    static const int16_t parameters[7] = {30831, 2775, 0, 0, 100, 50, 3}; /* 8192 sin and 32768 cos of 2 pi 440 / 8000 */
+    int wrong = 0, far_off = 0;
+    make(15, ROKDAUM_SIGNAL, parameters, 7);
+    for (int i = 0; i < N; i++)
+        in[i] = (int16_t)(i + 1);
+    want("feed", rokdaum_feed(&host, 15, in, N, out, N, &n), ROKDAUM_OK);
+    want("one for each", n, N);
+    for (int i = 0; i < N; i++)
+        if (i < 450 && i % 150 < 100)
+            far_off += fabs(8192 * sin(2 * 3.14159265358979323846 * 440 / 8000 * (i % 150)) - out[i]) > 40;
+        else
+            wrong += out[i] != in[i];
+    want("samples that aren't the tone", far_off, 0);
+    want("samples that aren't the input", wrong, 0);
+    want("get", rokdaum_get(&host, 15, words, 72, &n), ROKDAUM_OK);
+    want("its parameters", n == 7 && !memcmp(words, parameters, sizeof parameters), 1);
+}
+
 static void each_kind(void)
 {
-    static const int16_t a[] = ROKDAUM_DTMF_A, one[72] = {1, 1, 1};
+    static const int16_t a[] = ROKDAUM_DTMF_A, one[72] = {1, 1, 1}, adpcm[2] = {32, 0};
     static const struct {
         rokdaum_kind kind;
         const int16_t *words;
@@ -101,9 +185,10 @@ static void each_kind(void)
     } kinds[] = {
         {ROKDAUM_FIR, one, 3}, {ROKDAUM_DECIM, one, 3}, {ROKDAUM_BIQUAD, one, 5}, {ROKDAUM_TONE, one, 3},
         {ROKDAUM_G711, one, 2}, {ROKDAUM_GAIN, one, 1}, {ROKDAUM_LEVEL, one, 2}, {ROKDAUM_DTMF, a, 7},
+        {ROKDAUM_ECHO, one, 4}, {ROKDAUM_ADPCM, adpcm, 2}, {ROKDAUM_SIGNAL, one, 7},
     };
-    for (int k = 0; k < 8; k++) {
-        want("the kinds have the numbers 0 to 7", kinds[k].kind, k);
+    for (int k = 0; k < 11; k++) {
+        want("the kinds have the numbers 0 to 10", kinds[k].kind, k);
         want("create each", rokdaum_create(&host, (uint8_t)(32 + k), kinds[k].kind, 7, kinds[k].words, kinds[k].count, 0), ROKDAUM_OK);
     }
 }
@@ -118,6 +203,9 @@ int main(void)
     levels();
     digits(2, a);
     digits(3, b);
+    echoes();
+    codes();
+    signals();
     each_kind();
     want("sixteen places of keys", sizeof ROKDAUM_DTMF_KEYS, 17);
     want("close", rokdaum_close(&host), ROKDAUM_OK);

@@ -13,10 +13,12 @@ static int ports, refused;
 static rokdaum host = ROKDAUM_CLOSED;
 
 static const char *const names[] = {"", "long", "syntax", "range", "taken", "missing", "params", "room", "busy", "command", "short"};
-static const char *const kinds[] = {"fir", "decim", "biquad", "tone", "g711", "gain", "level", "dtmf"};
+static const char *const kinds[] = {"fir", "decim", "biquad", "tone", "g711", "gain", "level", "dtmf", "echo", "adpcm", "signal"};
 #ifdef GATEWAY
-enum { KINDS = 8 };
+#define NAME "gateway_console"
+enum { KINDS = 11 };
 #else
+#define NAME "dsp_console"
 enum { KINDS = 5 };
 #endif
 static const char *const spaces[] = {"daram", "saram", "external"};
@@ -178,7 +180,7 @@ int main(int argc, char **argv)
     options.external = sizes[2];
     options.channels = (uint8_t)ports;
     int code = rokdaum_open(&host, &options);
-    if (code) { fprintf(stderr, code == ROKDAUM_BAD_SIZE ? "dsp_console: a space is 0 to 65536 words, a multiple of 4\n" : "dsp_console: out of memory\n"); return code == ROKDAUM_NO_MEMORY ? 5 : 2; }
+    if (code) { fprintf(stderr, code == ROKDAUM_BAD_SIZE ? NAME ": a space is 0 to 65536 words, a multiple of 4\n" : NAME ": out of memory\n"); return code == ROKDAUM_NO_MEMORY ? 5 : 2; }
     /* Not before: a run that doesn't begin leaves each OUT as it was. */
     for (int p = 0; p < ports; p++)
         if (!(out[p] = fopen(files[2 * p + 1], "wb"))) return 4;

@@ -22,7 +22,7 @@ use Rattle.dsp_library.specs.declared.machine.Machine.{Machine}
 use Rattle.dsp_library.specs.declared.handle.Handle.{Handle}
 use Rattle.dsp_library.specs.declared.handle.Options.{Options}
 use Rattle.dsp_library.specs.declared.TheConstants.{DONE, CLOSED, BAD_LENGTH, BAD_KIND, BAD_SPACE, MARK}
-use Rattle.dsp_library.specs.Codes.{kind_numbered, space_numbered, opened_state, code_of, full_after, flag_code, active_code, AreShown}
+use Rattle.dsp_library.specs.Codes.{kind_numbered, space_numbered, opened_state, code_of, full_after, flag_code, active_code, AreShown, StayBehind}
 
 -- a handle that these functions made, or that was never opened: an open one has a machine, and a closed one has none
 pub record IsHandle (handle : Handle) : Type 0 where
@@ -70,18 +70,20 @@ abbrev pub words_told : Status → List ℤ
 words_told Done = []
 words_told (Words words) = words
 
--- the words of a status stand in the first places, and this is their count
-abbrev pub AreTold : Status → List ℤ → ℕ → Type 0
-AreTold status words count = (count ≡ length (words_told status)) × (take (length (words_told status)) words ≡ words_told status)
+-- the words of a status stand in the first places, this is their count, and behind them all is as it was
+abbrev pub AreTold : Status → (room words : List ℤ) → ℕ → Type 0
+AreTold status room words count =
+    (count ≡ length (words_told status)) × (take (length (words_told status)) words ≡ words_told status)
+    × (drop (length (words_told status)) words ≡ drop (length (words_told status)) room)
 
 -- the machine takes `get`, and the words of its answer stand in the first places
-pub record Gets (i : ℕ) (old : Machine) (new : Handle) (code : ℤ) (words : List ℤ) (count : ℕ) : Type 0 where
+pub record Gets (i : ℕ) (old : Machine) (new : Handle) (code : ℤ) (room words : List ℤ) (count : ℕ) : Type 0 where
   pub answer : Result Status Refusal
   pub after : Machine
   pub coded : code ≡ code_of answer
   pub kept : new.held.machine ≡ Some after
   pub refines : LibraryCallRefines (OfHost (Control i Get answer)) old after
-  pub told : IfOk answer (λ status. AreTold status words count)
+  pub told : IfOk answer (λ status. AreTold status room words count)
 
 -- the calls that are never refused: their answer, and the handle as it is then
 pub record Steps (space : Space) (old : Machine) (new : Handle) (moved : ℕ) : Type 0 where
@@ -100,11 +102,12 @@ pub record Copies (old : Machine) (new : Handle) (words : ℕ) : Type 0 where
   pub kept : new.held.machine ≡ Some old
   pub refines : LibraryCallRefines (OfHost (Copied words)) old old
 
-pub record Maps (space : Space) (old : Machine) (new : Handle) (blocks : List BlockShown) (count : ℕ) : Type 0 where
+pub record Maps (space : Space) (old : Machine) (new : Handle) (room blocks : List BlockShown) (count : ℕ) : Type 0 where
   pub answer : List Placed
   pub kept : new.held.machine ≡ Some old
   pub counted : count ≡ length answer
   pub shown : AreShown answer blocks
+  pub rest : StayBehind count room blocks
   pub refines : LibraryCallRefines (OfHost (Map space answer)) old old
 
 -- those of a group
@@ -202,7 +205,7 @@ module _ (old new : Handle) (code : ℤ) where
   -- where it is open and there is room for the words, its machine takes `get`
   abbrev pub TakesGet : ℕ → (room words : List ℤ) → ℕ → Type 0
   TakesGet i room words count = (m : Machine) → old.mark ≡ MARK → old.held.machine ≡ Some m → PARAMETER_WORDS ≤ length room
-      → Gets i m new code words count
+      → Gets i m new code room words count
 
   -- where it is open, and there is a block and room for as many samples, its machine passes the block through the channel or refuses it
   abbrev pub TakesFeed : ℕ → (input room out : List ℤ) → ℕ → Type 0
@@ -227,7 +230,7 @@ module _ (old new : Handle) (code : ℤ) where
   -- where it is open, a space has the number, and the blocks of a map fit, its machine tells them
   abbrev pub TellsMap : ℕ → (room blocks : List BlockShown) → ℕ → Type 0
   TellsMap space room blocks count = (m : Machine) (s : Space) → old.mark ≡ MARK → old.held.machine ≡ Some m → space_numbered space ≡ Some s
-      → MAP_BLOCKS ≤ length room → (code ≡ DONE) × Maps s m new blocks count
+      → MAP_BLOCKS ≤ length room → (code ≡ DONE) × Maps s m new room blocks count
 
   -- where it is open, its machine releases the group or refuses to
   abbrev pub TakesRelease : ℕ → ℕ → Type 0

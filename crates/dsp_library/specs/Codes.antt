@@ -5,7 +5,7 @@ use Rattle.ialg.specs.declared.refusal.Refusal.TheVariants.{Long, Syntax, Range,
 use Rattle.ialg.specs.Refusals.{refusal_number}
 use Rattle.mem_rec.specs.declared.Space.{Space}
 use Rattle.mem_rec.specs.declared.Space.TheVariants.{Daram, Saram, External}
-use Rattle.gateway_kinds.specs.Kinds.{Kind, of_voice, of_gain, of_level, of_dtmf}
+use Rattle.gateway_kinds.specs.Kinds.{Kind, of_voice, of_gain, of_level, of_dtmf, of_echo, of_adpcm, of_signal}
 use Rattle.voice_set.specs.declared.voice.Voice.TheVariants.{Fir, Decim, Biquad, Tone, G711}
 use Rattle.host_map.specs.declared.parts.Sizes.{Sizes}
 use Rattle.host_map.specs.declared.placed.Owner.{Owner}
@@ -19,7 +19,7 @@ use Rattle.dsp_library.specs.declared.handle.Options.{Options}
 use Rattle.dsp_library.specs.declared.spaces.BlockShown.{BlockShown}
 use Rattle.dsp_library.specs.declared.TheConstants.{DONE}
 
--- 0 to 4 are the voices, 5 a gain, 6 a meter and 7 a detector of digits
+-- 0 to 4 are the voices, 5 a gain, 6 a meter, 7 a detector of digits, 8 an echo canceller, 9 an ADPCM coder and 10 a generator of tones
 abbrev pub kind_numbered : ℕ → Option Kind
 kind_numbered zero = Some (of_voice Fir)
 kind_numbered (suc zero) = Some (of_voice Decim)
@@ -29,7 +29,10 @@ kind_numbered (suc (suc (suc (suc zero)))) = Some (of_voice G711)
 kind_numbered (suc (suc (suc (suc (suc zero))))) = Some (of_gain (record { of = record {} }))
 kind_numbered (suc (suc (suc (suc (suc (suc zero)))))) = Some (of_level (record { of = record {} }))
 kind_numbered (suc (suc (suc (suc (suc (suc (suc zero))))))) = Some (of_dtmf (record {}))
-kind_numbered (suc (suc (suc (suc (suc (suc (suc (suc n)))))))) = None
+kind_numbered (suc (suc (suc (suc (suc (suc (suc (suc zero)))))))) = Some (of_echo (record { of = record {} }))
+kind_numbered (suc (suc (suc (suc (suc (suc (suc (suc (suc zero))))))))) = Some (of_adpcm (record { of = record {} }))
+kind_numbered (suc (suc (suc (suc (suc (suc (suc (suc (suc (suc zero)))))))))) = Some (of_signal (record { of = record {} }))
+kind_numbered (suc (suc (suc (suc (suc (suc (suc (suc (suc (suc (suc n))))))))))) = None
 
 abbrev pub space_numbered : ℕ → Option Space
 space_numbered zero = Some Daram
@@ -91,6 +94,14 @@ block_of b = block_by b.owner b
 -- the blocks stand in the first places, in order
 abbrev pub AreShown : List Placed → List BlockShown → Type 0
 AreShown map blocks = (k : ℕ) (d : BlockShown) (e : Placed) → k < length map → slice_index_or blocks k d ≡ block_of (slice_index_or map k e)
+
+-- and behind them all is as it was
+abbrev pub StayBehind : ℕ → List BlockShown → List BlockShown → Type 0
+StayBehind count old new = (k : ℕ) (d : BlockShown) → count ≤ k → slice_index_or new k d ≡ slice_index_or old k d
+
+-- the code of a creation that finds no room, whichever space lacks it
+abbrev pub room_code : ℤ
+room_code = code_of {A = Unit {0}} (Err (Room Daram))
 
 -- the active member, -1 where none is active
 abbrev pub active_code : Option ℕ → ℤ

@@ -1,7 +1,8 @@
 //! The calls that pass no samples.
-ghost use Rattle.std.specs.Prelude.{◌≡◌, length};
+ghost use Rattle.std.specs.Prelude.{◌≡◌, ◌≢◌, length};
 ghost use Rattle.channel_spec.specs.Calls.Call.{Unchain, Remove};
 ghost use Rattle.dsp_library.specs.Calls.{IsHandle, FitsChannel, RefusesClosed, RefusesKind, RefusesParameters, RefusesUnless, Takes, TakesChain, TakesCreation};
+ghost use Rattle.dsp_library.specs.Codes.{room_code};
 
 use crate::codes::{code, kind_by, tell_space};
 use crate::handle::Handle;
@@ -11,7 +12,7 @@ use std::alloc::Global;
 use voice_channel::MEMBERS;
 
 /// Creates instance `i` of the kind of this number in the group, by these parameters. Where a space has no room, its number is written to
-/// `full`.
+/// `full`, and nowhere else is it written.
 #[unsafe(no_mangle)]
 pub extern "C" fn rokdaum_proved_create(
     alloc: Global,
@@ -25,6 +26,7 @@ pub extern "C" fn rokdaum_proved_create(
     requires handle { IsHandle handle.old }
     ensures handle { IsHandle handle.new }
     ensures mark { handle.new.mark ≡ handle.old.mark }
+    ensures refused { result ≢ room_code → full.new ≡ full.old }
     ensures closed { RefusesClosed handle.old handle.new result }
     ensures kind { RefusesKind handle.old handle.new result kind }
     ensures length { RefusesParameters handle.old handle.new result kind parameters.now }
@@ -44,7 +46,7 @@ pub extern "C" fn rokdaum_proved_create(
     let answer = machine.channels.create(i, kind, group, &parameters);
     handle.put(machine);
     tell_space(answer, full);
-    code(answer)
+    code(&answer)
 }
 
 /// Gives a channel members: instances that live, each in no other channel.
@@ -71,7 +73,7 @@ pub extern "C" fn rokdaum_proved_chain(
     let mut machine = handle.take(alloc);
     let answer = machine.channels.chain(channel, members);
     handle.put(machine);
-    code(answer)
+    code(&answer)
 }
 
 /// Takes its members from a channel. They live on.
@@ -89,7 +91,7 @@ pub extern "C" fn rokdaum_proved_unchain(alloc: Global, handle: &mut Handle, cha
     let mut machine = handle.take(alloc);
     let answer = machine.channels.unchain(channel);
     handle.put(machine);
-    code(answer)
+    code(&answer)
 }
 
 /// Deletes instance `i`, which is in no channel.
@@ -107,5 +109,5 @@ pub extern "C" fn rokdaum_proved_delete(alloc: Global, handle: &mut Handle, i: u
     let mut machine = handle.take(alloc);
     let answer = machine.channels.delete(i);
     handle.put(machine);
-    code(answer)
+    code(&answer)
 }

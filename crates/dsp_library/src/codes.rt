@@ -3,9 +3,12 @@ ghost use Rattle.std.specs.Prelude.{◌≡◌};
 ghost use Rattle.dsp_library.specs.Codes.{kind_numbered, space_numbered, code_of, full_after};
 
 use crate::DONE;
+use alg_adpcm::Adpcm;
 use alg_dtmf::Dtmf;
+use alg_echo::Echo;
 use alg_gain::Gain;
 use alg_level::Level;
+use alg_signal::Signal;
 use gateway_kinds::GatewayKind;
 use ialg::Refusal;
 use kind_parts::Or;
@@ -24,7 +27,10 @@ pub(crate) fn kind_by(number: u32) -> Option<GatewayKind>
         4 => Or::First(Voice::G711),
         5 => Or::Second(Or::First(Gain::new())),
         6 => Or::Second(Or::Second(Or::First(Level::new()))),
-        7 => Or::Second(Or::Second(Or::Second(Dtmf))),
+        7 => Or::Second(Or::Second(Or::Second(Or::First(Dtmf)))),
+        8 => Or::Second(Or::Second(Or::Second(Or::Second(Or::First(Echo::new()))))),
+        9 => Or::Second(Or::Second(Or::Second(Or::Second(Or::Second(Or::First(Adpcm::new())))))),
+        10 => Or::Second(Or::Second(Or::Second(Or::Second(Or::Second(Or::Second(Signal::new())))))),
         _ => return None,
     };
     Some(GatewayKind { kind })
@@ -55,12 +61,12 @@ pub(crate) fn tell_space(answer: Result<(), Refusal>, full: &mut u32)
     }
 }
 
-/// The code of an answer.
-pub(crate) fn code(answer: Result<(), Refusal>) -> i32
-    ensures { result ≡ code_of answer }
+/// The code of an answer, whatever the host tells where it does what it is asked.
+pub(crate) fn code<T>(answer: &Result<T, Refusal>) -> i32
+    ensures { result ≡ code_of answer.now }
 {
     match answer {
-        Ok(()) => DONE,
+        Ok(_told) => DONE,
         Err(refusal) => i32::from(refusal.number()),
     }
 }

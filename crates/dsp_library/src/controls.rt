@@ -9,21 +9,12 @@ ghost use Rattle.dsp_library.specs.declared.TheConstants.{DONE};
 ghost use Rattle.dsp_library.specs.Calls.{IsHandle, AreTold, FitsParameters, HoldsParameters, RefusesClosed, RefusesUnless, Takes, TakesGet, TakesSet};
 ghost use Rattle.dsp_library.specs.Codes.{code_of};
 
+use crate::codes::code;
 use crate::feeding::write_first;
 use crate::handle::Handle;
 use crate::{BAD_LENGTH, CLOSED, DONE, MARK};
 use ialg::{Ctl, PARAMETER_WORDS, Refusal, Status, copied};
 use std::alloc::Global;
-
-/// The code of an answer to a control.
-fn status_code(answer: Result<Status, Refusal>) -> i32
-    ensures { result ≡ code_of answer }
-{
-    match answer {
-        Ok(_status) => DONE,
-        Err(refusal) => i32::from(refusal.number()),
-    }
-}
 
 /// Puts these words of instance `i` into force.
 #[unsafe(no_mangle)]
@@ -50,7 +41,7 @@ pub extern "C" fn rokdaum_proved_set(
     let mut machine = handle.take(alloc);
     let answer = machine.channels.control(i, &control);
     handle.put(machine);
-    status_code(answer)
+    code(&answer)
 }
 
 /// Makes instance `i` forget its past samples.
@@ -68,7 +59,7 @@ pub extern "C" fn rokdaum_proved_reset(alloc: Global, handle: &mut Handle, i: u8
     let mut machine = handle.take(alloc);
     let answer = machine.channels.control(i, &Ctl::Reset);
     handle.put(machine);
-    status_code(answer)
+    code(&answer)
 }
 
 /// Writes the words that instance `i` answers to `get` from the first place of `words` on, and their count. There is room for 72 words.
@@ -105,7 +96,7 @@ fn tell_words(answer: Result<Status, Refusal>, words: &mut [i16], count: &mut u3
     requires room { PARAMETER_WORDS ≤ length words.old }
     ensures refused { result ≢ DONE → (words.new ≡ words.old) × (count.new ≡ count.old) }
     ensures code { result ≡ code_of answer }
-    ensures told { IfOk answer (λ status. AreTold (answer_of status) words.new count.new) }
+    ensures told { IfOk answer (λ status. AreTold (answer_of status) words.old words.new count.new) }
 {
     match answer {
         Ok(Status::Done) => {

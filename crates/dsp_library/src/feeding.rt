@@ -41,7 +41,7 @@ pub extern "C" fn rokdaum_proved_ready(alloc: Global, handle: &mut Handle, chann
     let machine = handle.take(alloc);
     let answer = machine.channels.ready(channel);
     handle.put(machine);
-    code(answer)
+    code(&answer)
 }
 
 /// Gives a block of 1 to 1,024 samples to a channel, and writes what the channel gives: no more samples than it got, from the first place
@@ -115,7 +115,7 @@ fn feed_sample(
     ensures ends { FeedEnds channel (sample ∷ []) machine.old machine.new result (out.old ∷ []) (out.new ∷ []) count.new }
 {
     if let Err(why) = machine.channels.ready(channel) {
-        return code(Err(why));
+        return code::<()>(&Err(why));
     }
     match machine
         .channels
@@ -144,7 +144,7 @@ fn feed(machine: &mut Machine, channel: u8, input: &[i16], out: &mut [i16], coun
     ensures ends { FeedEnds channel input.now machine.old machine.new result out.old out.new count.new }
 {
     if let Err(refusal) = machine.channels.ready(channel) {
-        return code(Err(refusal));
+        return code::<()>(&Err(refusal));
     }
     machine.channels.feed(channel, input, &mut machine.given);
     write_first(machine.given.as_slice(), out);

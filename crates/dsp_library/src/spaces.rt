@@ -2,7 +2,7 @@
 ghost use Rattle.std.specs.Prelude.{◌≡◌, ◌≢◌, ◌≤◌, length};
 ghost use Rattle.dsp_library.specs.declared.TheConstants.{DONE, CLOSED, MARK};
 ghost use Rattle.dsp_library.specs.Calls.{IsHandle, RefusesClosed, RefusesMap, RefusesSpace, TakesCompaction, TakesRelease, TakesStep, TellsCopied, TellsMap, TellsStat};
-ghost use Rattle.dsp_library.specs.Codes.{block_of, AreShown};
+ghost use Rattle.dsp_library.specs.Codes.{block_of, AreShown, StayBehind};
 
 use crate::codes::space_by;
 use crate::handle::Handle;
@@ -184,7 +184,8 @@ fn shown(block: &Placed) -> BlockShown
 /// Writes the blocks to the first places.
 fn show(map: &[Placed], blocks: &mut [BlockShown])
     requires { length map.now ≤ length blocks.old }
-    ensures { AreShown map.now blocks.new }
+    ensures shown { AreShown map.now blocks.new }
+    ensures rest { StayBehind (length map.now) blocks.old blocks.new }
 {
     for k in 0..map.len() {
         blocks[k] = shown(&map[k]);

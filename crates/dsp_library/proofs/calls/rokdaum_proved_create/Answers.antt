@@ -2,6 +2,7 @@ use Rattle.std.proofs.Common.{◌≡◌, ◌∙◌, sym, subst, w32, List, ℤ}
 use Rattle.std.proofs.Math.Facts.{to_z-of_z}
 use Rattle.dsp_library.specs.declared.machine.Machine.{Machine}
 use Rattle.dsp_library.specs.Calls.{LibraryCallRefines}
+use Rattle.dsp_library.proofs.Served.{full_stays}
 use Rattle.dsp_library.proofs.There.{same_there}
 use Rattle.gateway_kinds.specs.Kinds.{Kind}
 use Rattle.channel_spec.specs.Calls.Call.{OfHost}
@@ -23,3 +24,7 @@ returns-clause-machine c m k opened is numbered fits =
           (subst (λ (x : Kind × List ℤ). LibraryCallRefines (OfHost (Create c.args.i x.0 c.args.group x.1 c.create-answer.result)) c.deref_mut.result.now after)
           (λ j. (kind j, c.copied-parameters.ensures j)) c.create-answer.ensures.machine);
     }
+
+pub returns-clause-refused : goal.returns-clause-refused
+returns-clause-refused c apart =
+    c.tell_space.ensures ∙ full_stays c.create-answer.result c.args.full.now (λ same. apart (to_z-of_z {w = w32} (record { sfits = c.code.type_inv }) ∙ c.code.ensures ∙ same))

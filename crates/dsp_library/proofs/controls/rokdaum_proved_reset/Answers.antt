@@ -12,5 +12,5 @@ pub returns-clause-machine : goal.returns-clause-machine
 returns-clause-machine c m opened is =
     answered (λ answer. OfHost (Control c.args.i Reset answer)) (told c.control-answer.result) c.control-answer.new.self
     (c.deref_mut.ensures.value ∙ same_there c.take-machine.ensures.machine is)
-    (to_z-of_z {w = w32} (record { sfits = c.status_code.type_inv }) ∙ c.status_code.ensures ∙ code_told c.control-answer.result) c.put.ensures.machine
+    (to_z-of_z {w = w32} (record { sfits = c.code.type_inv }) ∙ c.code.ensures ∙ code_told c.control-answer.result) c.put.ensures.machine
     c.control-answer.ensures.machine

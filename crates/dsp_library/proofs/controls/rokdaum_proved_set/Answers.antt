@@ -15,5 +15,5 @@ returns-clause-machine c m opened is fits =
     let after : Machine = record { channels = c.control-answer.new.self; given = c.deref_mut.result.now.given } in
     answered (λ answer. OfHost (Control c.args.i (Set c.args.words.now) answer)) (told c.control-answer.result) c.control-answer.new.self
     (c.deref_mut.ensures.value ∙ same_there c.take-machine.ensures.machine is)
-    (to_z-of_z {w = w32} (record { sfits = c.status_code.type_inv }) ∙ c.status_code.ensures ∙ code_told c.control-answer.result) c.put.ensures.machine
+    (to_z-of_z {w = w32} (record { sfits = c.code.type_inv }) ∙ c.code.ensures ∙ code_told c.control-answer.result) c.put.ensures.machine
     (subst (λ (ws : List ℤ). LibraryCallRefines (OfHost (Control c.args.i (Set ws) (told c.control-answer.result))) c.deref_mut.result.now after) c.copied.ensures c.control-answer.ensures.machine)
