@@ -1,13 +1,14 @@
 # SPDX-License-Identifier: Apache-2.0
 #
+#     make                                           builds the programs and the C library in one go (in the repository)
 #     make install [PREFIX=/usr/local] [DESTDIR=]    puts the programs, the C library, the Python package, man pages, completion, documents
 #                                                    and examples in place
 #     make uninstall [PREFIX=/usr/local] [DESTDIR=]  takes away what was installed there, and nothing else
 #     make dist                                      makes out/rokdaum-VERSION-x86_64-linux.tar.gz (in the repository)
 #     make check                                     tests everything (in the repository), or runs the examples (in a release)
+#     make help                                      prints these lines
 #
-# It is the same file in the repository and in a release. In the repository the programs and the library have to be built: ./dsp_console,
-# ./check and make -C c do so.
+# It is the same file in the repository and in a release, where a bare make prints these lines.
 
 PREFIX ?= /usr/local
 DESTDIR ?=
@@ -24,10 +25,19 @@ PYTHON ?= python3
 finds = import os, sys; print(next((it for it in sys.path if it.startswith("$(PREFIX)/") and os.path.basename(it) in ("dist-packages", "site-packages")), ""))
 PYTHONDIR ?= $(shell $(PYTHON) -c '$(finds)' 2> /dev/null)
 version := $(shell cat $(dir $(lastword $(MAKEFILE_LIST)))VERSION)
+soname = librokdaum.so.$(firstword $(subst ., ,$(version)))
 programs = dsp_console gateway_console
 commands = dsp_run dsp_design dsp_map
 
-.PHONY: help install uninstall dist check
+.PHONY: all help install uninstall dist check
+ifneq ($(wildcard tools/release.py),)
+all:
+	@command -v python3 > /dev/null || { echo 'make: python3 is missing here: apt-get install python3' >&2; exit 69; }
+	@tools/build.py
+	@$(MAKE) --no-print-directory -C c
+else
+all: help
+endif
 help:
 	@sed -n 's/^#     //p' Makefile
 
@@ -54,10 +64,12 @@ install:
 	for one in $(programs); do install -D -m 755 $$one '$(root)/bin/'$$one || exit 1; done
 	install -D -m 644 -t '$(man)' docs/man/*.1
 	install -D -m 644 docs/completion/dsp_console '$(completion)/dsp_console'
+	ln -sf dsp_console '$(completion)/gateway_console'
 	install -D -m 644 c/rokdaum.h '$(root)/include/rokdaum.h'
 	install -D -m 644 lib/librokdaum.a '$(root)/lib/librokdaum.a'
 	install -D -m 644 lib/librokdaum.so.$(version) '$(root)/lib/librokdaum.so.$(version)'
-	ln -sf librokdaum.so.$(version) '$(root)/lib/librokdaum.so'
+	ln -sf librokdaum.so.$(version) '$(root)/lib/$(soname)'
+	ln -sf $(soname) '$(root)/lib/librokdaum.so'
 	mkdir -p '$(root)/lib/pkgconfig'
 	sed -e 's|^prefix=.*|prefix=$(PREFIX)|' -e 's|^includedir=.*|includedir=$${prefix}/include|' lib/pkgconfig/rokdaum.pc > '$(root)/lib/pkgconfig/rokdaum.pc'
 	@sed 's/^[0-9a-f]*  //' SHA256SUMS | while read -r file; do \
@@ -91,7 +103,7 @@ uninstall:
 	        *) rm -f '$(doc)'/"$$file" ;; \
 	    esac; \
 	done
-	rm -f '$(doc)/SHA256SUMS' '$(completion)/dsp_console' '$(root)/include/rokdaum.h' '$(root)/lib/librokdaum.so'
+	rm -f '$(doc)/SHA256SUMS' '$(completion)/dsp_console' '$(completion)/gateway_console' '$(root)/include/rokdaum.h' '$(root)/lib/librokdaum.so' '$(root)/lib/$(soname)'
 	for one in $(programs) $(commands); do rm -f '$(root)/bin/'$$one; done
 	@[ -z '$(PYTHONDIR)' ] || [ ! -L '$(DESTDIR)$(PYTHONDIR)/rokdaum' ] || rm '$(DESTDIR)$(PYTHONDIR)/rokdaum'
 	@find '$(package)' -depth -name __pycache__ -exec rm -rf {} +

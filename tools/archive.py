@@ -17,9 +17,7 @@ import program
 
 def main(names: list[str]) -> int:
     try:
-        for name in names:
-            if not program.is_built(name):
-                program.build(lambda text: print(f"{name}: {text}", file=sys.stderr, flush=True), name)
+        program.build(lambda text: print(f"{' '.join(names)}: {text}", file=sys.stderr, flush=True), *names)
     except program.CantBuild as refusal:
         print(f"archive: {refusal}", file=sys.stderr)
         return refusal.status

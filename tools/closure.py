@@ -320,6 +320,12 @@ def report(closure: Closure, files: bool, outside: bool) -> str:
     return "\n".join(rows)
 
 
+def stop_of(name: str) -> tuple[str, str, str]:
+    """A name of three parts, crate.file.name."""
+    crate, file, own = name.split(".")
+    return crate, file, own
+
+
 def main(words: list[str]) -> int:
     parser = argparse.ArgumentParser(description="Lists the definitions that a reader of a clause has to believe.")
     parser.add_argument("functions", nargs="*", metavar="CRATE[/src/FILE.rt]:FUNCTION")
@@ -335,7 +341,7 @@ def main(words: list[str]) -> int:
     if bool(given.functions) == bool(given.theorem):
         parser.error("name a function, or --headline or --sounds, and not both")
     sources = Sources(given.root)
-    stops = {tuple(name.split(".")) for name in given.stop}
+    stops = set(map(stop_of, given.stop))
     try:
         if given.theorem:
             closure = closure_of(sources, [RUN], (given.theorem,), (*VOICES, *given.also), stops)

@@ -2,8 +2,10 @@
 # SPDX-License-Identifier: Apache-2.0
 """Keeps the documents true to the sources.
 
-    tools/documents.py --check     says what the pages at the top, in docs, bench and examples name or link to and isn't there, and what is stale
-    tools/documents.py --write     fills in what it makes: counted numbers, reading lists, whole files, and the column `headline` of docs/DEFINITIONS.md
+    tools/documents.py --check     says what the pages at the top, in docs, bench, c, examples, python and tests name or link to and isn't there, what is
+                                   stale, and what breaks a rule of docs/STYLE.md
+    tools/documents.py --write     fills in what it makes: counted numbers, reading lists, whole files, the column `headline` of docs/DEFINITIONS.md, and
+                                   the picture
 
 What is checked:
 
@@ -16,8 +18,14 @@ What is checked:
 - **Counted numbers** between `<!-- count: NAME -->` and `<!-- -->`, and the reading list of the main theorem between `<!-- list: headline -->`
   and `<!-- end of the list -->`.
 - **Files that a page has whole**, between `<!-- file: PATH -->` and `<!-- end of the file -->`.
-- **Crates**: each has its row in docs/ARCHITECTURE.md.
-- **The length of README.md**: at most 250 lines of at most 120 letters.
+- **Crates**: each has its row in docs/ARCHITECTURE.md. Its picture is what tools/architecture.py would draw, and no crate breaks its rule.
+- **Lengths**: README.md has at most 250 lines and 1,800 words. A line has at most 120 letters; outside README.md, rows of tables, blocks of
+  code and what a tool writes between marks are exempt, as are headings, since they can't be broken.
+- **Forms that may not come back** (docs/STYLE.md). Quoted words, rows of PROVED.md, GLOSSARY.md and DEFINITIONS.md and
+  blocks of code are exempt.
+- **docs/DECISIONS.md**: a decision begins with what it is about, in backticks, and has no figure of speed: instructions, nanoseconds,
+  microseconds, per cent.
+- **bench/NOTEBOOK.md**: each row of its tables has a date, a machine and a command in backticks.
 """
 from __future__ import annotations
 
@@ -32,7 +40,10 @@ from pathlib import Path
 from typing import Callable, Iterator
 
 sys.path.insert(0, str(Path(__file__).resolve().parent))
-import closure as reading  # noqa: E402  (the folder of this file has to be on the path first)
+import architecture  # noqa: E402  (the folder of this file has to be on the path first)
+import closure as reading  # noqa: E402
+import counted  # noqa: E402
+import crates  # noqa: E402
 
 ROOT = Path(__file__).resolve().parent.parent
 DEFINITIONS = "docs/DEFINITIONS.md"
@@ -40,7 +51,12 @@ ARCHITECTURE = "docs/ARCHITECTURE.md"
 OUTSIDE_NAMES = "tools/outside_names.txt"
 # A page that a script makes of a log: it names commits, and crates as they were.
 STATUS = "docs/STATUS.md"
-README_LINES, README_LETTERS = 250, 120
+DECISIONS = "docs/DECISIONS.md"
+NOTEBOOK = "bench/NOTEBOOK.md"
+STYLE = "docs/STYLE.md"
+README_LINES, README_WORDS, LETTERS = 250, 1_800, 120
+# Pages that are tables to look things up in: their cells have the words of the sources.
+TABLES = ("docs/PROVED.md", "docs/GLOSSARY.md", DEFINITIONS)
 
 # Where a path of the repository begins, and what stands in a folder that isn't kept.
 TOP_FOLDERS = ("bench", "crates", "docs", "examples", "python", "tests", "tools", ".ci", "bindings", "include")
@@ -54,6 +70,24 @@ LIST = re.compile(r"<!-- list: (\w+) -->\n(.*?)<!-- end of the list -->", re.S)
 FILE = re.compile(r"<!-- file: (\S+) -->\n(.*?)<!-- end of the file -->", re.S)
 CHECK = re.compile(r"(?<![\w/])\./check((?: [a-z_]+)+)")
 PART = re.compile(r'Part\("(\w+)"')
+WRITTEN = re.compile(r"<!-- (?:table|list|file|walk|kinds): .*?<!-- end of the (?:table|list|file|walk|kinds) -->", re.S)
+QUOTED = re.compile(r'`[^`]*`|"[^"]*"|\]\([^)]*\)|<!--.*?-->')
+# Forms that STYLE.md rules out, each with what to write. A form is a regular expression over a paragraph without what is quoted in it.
+FORMS: dict[str, str] = {
+    r"\b(?:is|are|was|were) told\b": "report, say, call: who does it?",
+    r"\btells? of\b": "describe, report",
+    r"\bsome (?:ten|\d[\d,.]*)\b": "about ten",
+    r"\bof one's own\b": "your own, its own",
+    r"\bwhat stands\b": "what is",
+    r"\bstands? (?:in|on|at|behind|beside|there)\b": "is in, is at, is after, uses",
+    r"\bnothing is said\b": "unless .. says otherwise; the default is",
+    r"\b(?:^|\. )Who (?:wants|reads|writes|needs)\b": "if you want",
+    r"\bgranted\b": "accepted",
+    r"\bisn't heard\b": "does not affect the output",
+}
+# Figures of speed, which are bench/NOTEBOOK.md's.
+SPEED = re.compile(r"\b\d[\d,.]* (?:more |fewer |less )?(?:instructions?|ns|nanoseconds?|microseconds?|per cent|%)(?!\w)|\b\d[\d,.]*%")
+DATE = re.compile(r"\b20\d\d-\d\d-\d\d\b")
 OF = re.compile(r"((?:`[^`\n]+`(?:,? and |, )?)+) of (?:the )?((?:`[^`\n]+`(?:,? and |, )?)+)")
 
 
@@ -74,10 +108,7 @@ class Repository:
 
     def __init__(self, root: Path) -> None:
         self.root = root
-        self.stands_on: dict[str, list[str]] = {}
-        for line in (root / "crates.txt").read_text(encoding="utf-8").splitlines():
-            if found := re.match(r"(\w+)[^:#]*:(.*)$", line):
-                self.stands_on[found[1]] = found[2].split("#")[0].split()
+        self.stands_on: dict[str, list[str]] = {name: list(it.uses) for name, it in crates.listed(root).items()}
         self.words: dict[str, set[str]] = defaultdict(set)
         self.contracts: dict[str, list[str]] = defaultdict(list)
         self.clauses: dict[str, list[str]] = defaultdict(list)
@@ -231,7 +262,9 @@ def read_outside(root: Path) -> dict[str, str]:
 
 
 def documents(root: Path) -> list[Path]:
-    return [*sorted(root.glob("*.md")), *sorted((root / "docs").glob("*.md")), *(path for folder in ("bench", "examples") for path in sorted((root / folder).rglob("*.md")))]
+    """The pages: those at the top, in docs, and anywhere in bench, c, examples, python and tests."""
+    deep = (path for folder in ("bench", "c", "examples", "python", "tests") for path in sorted((root / folder).rglob("*.md")))
+    return [*sorted(root.glob("*.md")), *sorted((root / "docs").glob("*.md")), *deep]
 
 
 def prose(text: str) -> Iterator[tuple[int, str, bool]]:
@@ -290,9 +323,13 @@ class Checker:
             found += self.links(path, name, text)
             found += self.parts(name, text)
             found += self.counted(name, text)
+            found += self.lengths(name, text) + self.forms(name, text)
         found += self.column()
         found += self.rows_of_crates()
-        found += self.length()
+        found += self.picture()
+        found += self.readme()
+        found += self.decisions()
+        found += self.notebook()
         for word in sorted(set(self.outside) - self.used_outside):
             found.append(Problem(OUTSIDE_NAMES, 0, f"`{word}` stands in no document"))
         return found
@@ -323,7 +360,7 @@ class Checker:
         for path in re.findall(r"(?<![\w/.])(?:\./)?[\w.*-]+(?:/[\w.*-]+)+/?", span):
             if path.removeprefix("./").split("/")[0] in TOP_FOLDERS and not self.is_path(path.removeprefix("./")):
                 yield path
-        if code or span.startswith("-- "):  # a comment of a source
+        if code or span.startswith("-- ") or "b'" in span:  # a comment of a source, what Python prints
             return
         for word in WORD.findall(re.sub(r"(?:\./)?[\w.*-]+(?:/[\w.*-]+)+/?", " ", span)):
             if word.startswith("_") and any(name.endswith(word) for name in known):
@@ -359,7 +396,8 @@ class Checker:
     def links(self, path: Path, name: str, text: str) -> list[Problem]:
         found: list[Problem] = []
         for number, line, code in prose(text):
-            for link in (next(filter(None, groups)) for groups in LINK.findall(line)) if not code else ():
+            links: list[str] = [] if code else [next(filter(None, groups)) for groups in LINK.findall(line)]
+            for link in links:
                 if re.match(r"[a-z]+:", link):
                     continue
                 file, _, anchor = link.partition("#")
@@ -430,12 +468,73 @@ class Checker:
         rows = {name for line in path.read_text(encoding="utf-8").splitlines() if line.startswith("| `") for name in names_in(cells(line)[0])}
         return [Problem(ARCHITECTURE, 0, f"the crate `{crate}` has no row") for crate in self.repository.stands_on if crate not in rows]
 
-    def length(self) -> list[Problem]:
-        lines = (self.repository.root / "README.md").read_text(encoding="utf-8").splitlines()
-        found = [Problem("README.md", at, f"{len(line)} letters") for at, line in enumerate(lines, 1) if len(line) > README_LETTERS]
-        if len(lines) > README_LINES:
-            found.append(Problem("README.md", len(lines), f"{len(lines)} lines"))
+    def picture(self) -> list[Problem]:
+        """What is wrong with the picture of the crates, where there is one."""
+        path = self.repository.root / architecture.PICTURE
+        if not path.is_file():
+            return []
+        crates = architecture.House.read(self.repository.root).crates
+        found = [Problem("crates.txt", 0, text) for text in architecture.broken_rules(crates, architecture.PLACES)]
+        if path.read_text(encoding="utf-8") != architecture.draw(crates):
+            found.append(Problem(str(architecture.PICTURE), 0, "the picture is stale: tools/documents.py --write"))
         return found
+
+    def readme(self) -> list[Problem]:
+        text = (self.repository.root / "README.md").read_text(encoding="utf-8")
+        lines, words = len(text.splitlines()), len(text.split())
+        found = [Problem("README.md", lines, f"{lines} lines: at most {README_LINES}")] if lines > README_LINES else []
+        return found + ([Problem("README.md", lines, f"{words} words: at most {README_WORDS}")] if words > README_WORDS else [])
+
+    def lengths(self, name: str, text: str) -> list[Problem]:
+        """Lines that are too long. What can't be broken is exempt, but not in README.md."""
+        found: list[Problem] = []
+        for number, line, code in prose(text if name == "README.md" else without_written(text)):
+            unbreakable = code or line.startswith(("|", "#"))
+            if len(line) > LETTERS and (name == "README.md" or not unbreakable):
+                found.append(Problem(name, number, f"{len(line)} letters: at most {LETTERS}"))
+        return found
+
+    def forms(self, name: str, text: str) -> list[Problem]:
+        """Forms that may not come back. STYLE.md quotes them, and STATUS.md is a log."""
+        if name in (STYLE, STATUS):
+            return []
+        found: list[Problem] = []
+        for number, line, code in prose(without_written(text)):
+            if code or (name in TABLES and line.startswith("|")):
+                continue
+            plain = QUOTED.sub(" ", line)
+            found += [Problem(name, number, f"{match[0]!r}: {better} (docs/STYLE.md)") for form, better in FORMS.items() for match in re.finditer(form, plain)]
+        return found
+
+    def decisions(self) -> list[Problem]:
+        """Decisions that don't begin with what they are about, and figures of speed among them."""
+        path = self.repository.root / DECISIONS
+        lines = path.read_text(encoding="utf-8").splitlines() if path.is_file() else []
+        found = [Problem(DECISIONS, at, "a decision begins with what it is about, in backticks") for at, line in enumerate(lines, 1) if re.match(r"- (?!`)", line)]
+        return found + [Problem(DECISIONS, at, f"{match[0]!r} is a figure of speed: {NOTEBOOK}") for at, line in enumerate(lines, 1) for match in SPEED.finditer(line)]
+
+    def notebook(self) -> list[Problem]:
+        """Rows of measurements without what it takes to make them again."""
+        path = self.repository.root / NOTEBOOK
+        found: list[Problem] = []
+        columns: list[str] = []
+        for at, line in enumerate(path.read_text(encoding="utf-8").splitlines() if path.is_file() else [], 1):
+            row = cells(line) if line.startswith("|") else []
+            if not row or set(line) <= set("|-: "):
+                columns = columns if row else []
+            elif not columns:
+                columns = row
+                found += [Problem(NOTEBOOK, at, f"the table has no column {wanted}") for wanted in ("date", "machine", "command") if wanted not in columns]
+            else:
+                given = dict(zip(columns, row))
+                lacks = [DATE.fullmatch(given.get("date", "")) is None, not given.get("machine"), not SPAN.findall(given.get("command", ""))]
+                found += [Problem(NOTEBOOK, at, f"the row has no {what}") for what, missing in zip(("date", "machine", "command"), lacks) if missing]
+        return found
+
+
+def without_written(text: str) -> str:
+    """The text with as many lines, but those empty that a tool writes between marks."""
+    return WRITTEN.sub(lambda found: "\n" * found[0].count("\n"), text)
 
 
 def reading_list(repository: Repository) -> str:
@@ -513,7 +612,7 @@ def with_column(text: str, repository: Repository) -> str:
 
 
 def write(repository: Repository) -> list[str]:
-    """Fills in what is made, and answers which documents it changed."""
+    """Fills in what is made, draws the picture anew where there is one, and answers which files it changed."""
     changed: list[str] = []
     for path in documents(repository.root):
         old = path.read_text(encoding="utf-8")
@@ -523,6 +622,12 @@ def write(repository: Repository) -> list[str]:
         if new != old:
             path.write_text(new, encoding="utf-8")
             changed.append(str(path.relative_to(repository.root)))
+    picture = repository.root / architecture.PICTURE
+    if picture.is_file():
+        drawn = architecture.draw(architecture.House.read(repository.root).crates)
+        if drawn != picture.read_text(encoding="utf-8"):
+            picture.write_text(drawn, encoding="utf-8")
+            changed.append(str(architecture.PICTURE))
     return changed
 
 
@@ -541,7 +646,9 @@ def main(words: list[str]) -> int:
     found = Checker(repository).check()
     for problem in found:
         print(problem, file=sys.stderr)
-    print(f"{len(documents(repository.root))} documents, {len(found)} wrong")
+    pages = len(documents(repository.root))
+    counted.keep(max(0, pages - len(found)), len(found))
+    print(f"{pages} documents, {len(found)} wrong")
     return 1 if found else 0
 
 

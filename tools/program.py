@@ -1,15 +1,18 @@
 # SPDX-License-Identifier: Apache-2.0
-"""The proved program: whether it is built from the sources as they stand, and how it is built anew.
+"""The proved programs and the library: whether they are built from the sources as they stand, and how they are built anew.
 
-`dsp_console`, `check` and `tools/archive.py` use this. A build is a run of `rt ci` over a copy of the program's crate and of the
-crates that it stands on, without their must-fail edits: every crate is proved, as many at a time as the graph, the processors and
-the memory allow, and the program is what that run makes. A second run beside it proves the longest chain of crates, for which the others
-would wait. The archive of a static library is made by `rattle build` over what the first run leaves; it builds a proved crate alone.
+`dsp_console`, `check`, `tools/build.py` and `tools/archive.py` use this. A build, of one of them or of several at once, is a run of `rt ci`
+over a copy of their crates and of those below, without their must-fail edits: every crate is proved, as many at a time as the graph, the
+processors and the memory allow, and the programs are what that run makes. A second run beside it proves the longest chain of crates, for
+which the others would wait. The archive of a static library is made by `rattle build` over what the first run leaves; it builds a proved
+crate alone.
 """
 
 from __future__ import annotations
 
+import fcntl
 import hashlib
+import json
 import os
 import re
 import shutil
@@ -18,7 +21,13 @@ import sys
 import tempfile
 import threading
 import time
+from collections.abc import Callable, Iterator
+from contextlib import contextmanager
 from pathlib import Path
+
+import crates as crate_list
+
+Say = Callable[[str], None]
 
 TOP = Path(__file__).resolve().parent.parent
 CRATES = TOP / "crates"
@@ -46,9 +55,15 @@ KEPT_DISK_OCTETS = 8_000_000_000
 YIELDS = "10"
 # How long the lines of a run that was ended are waited for.
 READER_SECONDS = 5
-# Seconds of one processor: for each crate, and for each line of it. They only make the first estimate of the minutes.
+# Seconds of one processor: for each crate, and for each line of it; and how long the sources are read before the first crate is proved.
+# They only make the estimate of the minutes.
 CRATE_SECONDS = 8.0
 LINE_SECONDS = 0.025
+READ_SECONDS = 90.0
+# How many times as long the slowest machine took that was seen, before this one has built anything.
+SLOW = 2.0
+# A pace is only kept of a build of so many seconds.
+LONG_BUILD_SECONDS = 300.0
 
 
 class CantBuild(Exception):
@@ -59,9 +74,14 @@ class CantBuild(Exception):
         self.status = status
 
 
+def listed() -> dict[str, crate_list.Crate]:
+    """The crates of the repository."""
+    return crate_list.listed(TOP)
+
+
 def is_archive(name: str) -> bool:
     """Whether crates.txt has the crate as a static library."""
-    return re.search(rf"(?m)^{name} +staticlib *:", (TOP / "crates.txt").read_text(encoding="utf-8")) is not None
+    return name in listed() and listed()[name].is_archive
 
 
 def path_of(name: str = NAME) -> Path:
@@ -76,26 +96,12 @@ def built_from(name: str = NAME) -> Path:
 
 def uses() -> dict[str, list[str]]:
     """The crates of the repository, each with the libraries that crates.txt lists for it."""
-    listed = {}
-    for line in (TOP / "crates.txt").read_text(encoding="utf-8").splitlines():
-        head, colon, tail = line.partition("#")[0].partition(":")
-        if colon:
-            listed[head.split()[0]] = tail.split()
-    return listed
+    return {name: list(it.uses) for name, it in listed().items()}
 
 
-def closure(name: str = NAME) -> list[str]:
-    """A crate and the crates of the repository that it stands on, lowest first."""
-    listed, found = uses(), []
-
-    def visit(crate: str) -> None:
-        if crate in listed and crate not in found:
-            for below in listed[crate]:
-                visit(below)
-            found.append(crate)
-
-    visit(name)
-    return found
+def closure(*names: str) -> list[str]:
+    """Crates and the crates of the repository that they are built over, lowest first: those of dsp_console where none is named."""
+    return crate_list.closure(listed(), *(names or (NAME,)))
 
 
 def source_files(crate: str) -> list[str]:
@@ -114,9 +120,9 @@ def octets_of(path: str) -> bytes:
 
 def checksum(name: str = NAME) -> str:
     """A checksum of all that a program is built from: the lines of crates.txt and each file of each crate of its closure."""
-    listed, total = uses(), hashlib.sha256()
+    libraries, total = uses(), hashlib.sha256()
     for crate in closure(name):
-        total.update(f"{crate}: {' '.join(listed[crate])}\n".encode())
+        total.update(f"{crate}: {' '.join(libraries[crate])}\n".encode())
         for path in source_files(crate):
             text = octets_of(path)
             total.update(f"{path[len(str(CRATES)):]} {len(text)}\n".encode() + text)
@@ -144,9 +150,10 @@ def take(made: Path, name: str, sources: str) -> None:
     """Puts a program that was made from these sources in its place, whole or not at all."""
     program = path_of(name)
     program.parent.mkdir(parents=True, exist_ok=True)
-    for path, put in ((program, lambda to: shutil.copy2(made, to)), (built_from(name), lambda to: to.write_text(sources))):
-        part = path.with_suffix(f".{os.getpid()}")
-        put(part)
+    parts = [path.with_suffix(f".{os.getpid()}") for path in (program, built_from(name))]
+    shutil.copy2(made, parts[0])
+    parts[1].write_text(sources)
+    for part, path in zip(parts, (program, built_from(name))):
         os.replace(part, path)
 
 
@@ -178,7 +185,7 @@ def kit_lines(text: str) -> list[str]:
     return re.findall(r"rattle-kit-\w+ logic [0-9a-f]+", text)
 
 
-def look_at_kit(say) -> None:
+def look_at_kit(say: Say) -> None:
     """Refuses a machine without the kit or with one of another logic, and tells of a kit that the sources weren't proved with."""
     if not shutil.which("rt"):
         raise CantBuild(
@@ -207,17 +214,44 @@ def look_at_disk(room: Path) -> None:
         )
 
 
-class Progress:
-    """How far a build is: of each crate its weight in seconds of one processor, and what stands above it."""
+def pace_file() -> Path:
+    """Where the pace of the last long build on this machine is kept."""
+    return TOP / "out" / "pace.json"
 
-    def __init__(self, crates: list[str], say) -> None:
-        listed = uses()
+
+def kept_pace() -> float | None:
+    """How many times as long as on idle processors the last long build here took, None before the first."""
+    try:
+        pace = json.loads(pace_file().read_text(encoding="utf-8"))["pace"]
+    except (OSError, ValueError, KeyError, TypeError):
+        return None
+    return float(pace) if isinstance(pace, (int, float)) and 0.1 <= pace <= 100 else None
+
+
+class Progress:
+    """How far a build is: of each crate its weight in seconds of one processor, and what stands above it.
+
+    The minutes left are those of the model at a pace: first that of the last long build on this machine (or of the slowest machine that was
+    seen), and the more is done, the more that of this build. They never grow: where a build falls behind, they are said to be more.
+    """
+
+    def __init__(self, crates: list[str], say: Say, tops: tuple[str, ...] = (), known: tuple[str, ...] = ()) -> None:
+        libraries = uses()
         self.say, self.began, self.lanes = say, time.monotonic(), len(os.sched_getaffinity(0))
-        self.what = "library" if is_archive(crates[-1]) else "program"
+        self.tops = tops or (crates[-1],)
+        self.what = "programs and libraries" if len(self.tops) > 1 else "library" if is_archive(self.tops[0]) else "program"
         self.weight = {it: CRATE_SECONDS + LINE_SECONDS * sum(octets_of(path).count(b"\n") for path in source_files(it)) for it in crates}
-        self.below = {it: [dep for dep in listed[it] if dep in self.weight] for it in crates}
-        self.left = list(crates)
+        self.below = {it: [dep for dep in libraries[it] if dep in self.weight] for it in crates}
+        # What stands proved already, since a program over it is built, isn't waited for.
+        self.left = [it for it in crates if it not in known]
         self.all = len(crates)
+        self.pace = kept_pace()
+        self.is_reading = True
+        self.minutes: float | None = None
+        self.whole = 1.0
+        # Seconds that were spent, and those of the model that were done in them, the later ones weighing more.
+        self.spent = self.done = 0.0
+        self.at, self.left_before = self.began, 0.0
         self.lock = threading.Lock()
 
     def chains(self) -> dict[str, float]:
@@ -230,31 +264,31 @@ class Progress:
     def chain_top(self) -> str:
         """Of the crates that end at least half of the longest chain, the one for which the chain is most of what it stands on."""
         chains = self.chains()
-        chain = [self.left[-1]]
-        while self.below[chain[-1]]:
-            chain.append(max(self.below[chain[-1]], key=lambda it: chains[it]))
+        chain = [max(self.left, key=lambda it: chains[it])]
+        while below := [it for it in self.below[chain[-1]] if it in chains]:
+            chain.append(max(below, key=lambda it: chains[it]))
         long = [it for it in chain if chains[it] >= 0.5 * chains[chain[0]]]
         return max(long, key=lambda it: chains[it] / sum(self.weight[below] for below in closure(it)))
 
     def seconds_left(self) -> float:
-        """The most of what the processors have left to do and of the longest chain of crates left, at the pace so far."""
-        return max(sum(self.weight[it] for it in self.left) / self.lanes, max(self.chains().values(), default=0.0))
+        """The most of what idle processors have left to do and of the longest chain of crates left, with what is left to read."""
+        reading = READ_SECONDS if self.is_reading and self.left else 0.0
+        return reading + max(sum(self.weight[it] for it in self.left) / self.lanes, max(self.chains().values(), default=0.0))
 
     def begin(self) -> None:
         """Tells what is coming."""
-        minutes = self.seconds_left() / 60
-        self.say(
-            f"the {self.what} has to be built: {self.all} crates are proved, up to {self.lanes} at a time, in about {minutes:.0f} minutes on idle processors; "
-            "all sources are read first, which takes a minute or two"
-        )
-        self.whole = max(self.seconds_left(), 1.0)
+        self.whole = self.left_before = max(self.seconds_left(), 1.0)
+        least, before = round(self.whole / 60), self.all - len(self.left)
+        crates = f"{self.all} crates are proved" if not before else f"{before} of {self.all} crates are proved already, and {len(self.left)} are left"
+        minutes = f"about {max(1, round(self.whole * self.pace / 60))} minutes" if self.pace else f"{max(1, least)} to {max(2, round(SLOW * self.whole / 60))} minutes, as the machine is"
+        self.say(f"the {self.what} {'have' if len(self.tops) > 1 else 'has'} to be built: {crates}, up to {self.lanes} at a time, in {minutes}; all sources are read first, which takes a minute or two")
 
     def kept(self, crate: str) -> None:
         """Counts a crate that was proved by an earlier run on this machine: it takes no time."""
         with self.lock:
             if crate in self.left:
                 self.left.remove(crate)
-                self.whole = max(self.seconds_left(), 1.0)
+                self.whole = self.left_before = max(self.seconds_left(), 1.0)
 
     def proved(self, crate: str) -> None:
         """Tells that a crate is proved."""
@@ -262,11 +296,30 @@ class Progress:
             if crate not in self.left:
                 return
             self.left.remove(crate)
-            spent, model = time.monotonic() - self.began, self.seconds_left()
-            done = self.whole - model
-            pace = min(max(spent / done, 0.5), 6.0) if done > 0.1 * self.whole else 1.0
-            rest = f"about {max(1, round(model * pace / 60))} minutes left" if self.left else f"the {self.what} is next"
+            self.is_reading = False
+            rest = f"{self.rest()} left" if self.left else f"the {self.what} {'are' if len(self.tops) > 1 else 'is'} next"
             self.say(f"proved {crate}, {self.all - len(self.left)} of {self.all}, {rest}")
+
+    def rest(self) -> str:
+        """The minutes left, in words."""
+        model, now = self.seconds_left(), time.monotonic()
+        step = max(self.left_before - model, 0.0)
+        # What was done before weighs half as much once a fifth of the whole is done behind it.
+        fade = 0.5 ** (step / (0.2 * self.whole))
+        self.spent, self.done = fade * self.spent + now - self.at, fade * self.done + step
+        self.at, self.left_before = now, model
+        trust = min(1.0, 2 * max(0.0, 1 - model / self.whole))
+        pace = trust * self.spent / max(self.done, 1.0) + (1 - trust) * (self.pace or SLOW)
+        found = model * pace / 60
+        said = found if self.minutes is None else min(found, self.minutes)
+        self.minutes = said
+        return f"{'about' if found <= 1.5 * said + 1 else 'more than'} {max(1, round(said))} minutes"
+
+    def end(self) -> None:
+        """Keeps the pace of a long build for the next one."""
+        if self.whole >= LONG_BUILD_SECONDS:
+            pace_file().parent.mkdir(exist_ok=True)
+            pace_file().write_text(json.dumps({"pace": round((time.monotonic() - self.began) / self.whole, 2)}) + "\n")
 
     def read(self, line: str) -> None:
         """Counts the crate that a line of `rt ci` says to be proved, if it says so."""
@@ -283,7 +336,7 @@ def memory_free() -> int:
 
 def keeps_proofs() -> bool:
     """Whether rt can keep beside the kit what it proved, so that another run takes it from there: it keeps nothing on a disk that is nearly full."""
-    beside = Path(shutil.which("rt")).resolve().parents[2]
+    beside = Path(shutil.which("rt") or "/").resolve().parents[2]
     store = beside / "rattle-kept"
     place = store if store.exists() else beside
     return os.access(place, os.W_OK) and shutil.disk_usage(place).free >= KEPT_DISK_OCTETS
@@ -298,15 +351,23 @@ class Ahead:
         self.ran = subprocess.Popen(
             ["rt", "ci", crate], cwd=room, stdin=subprocess.DEVNULL, stdout=subprocess.PIPE, stderr=subprocess.STDOUT, text=True, errors="replace"
         )
-        self.reader = threading.Thread(target=lambda: [progress.read(line) for line in self.ran.stdout], daemon=True)
+        self.reader = threading.Thread(target=self.follow, args=(progress,), daemon=True)
         self.reader.start()
+
+    def follow(self, progress: Progress) -> None:
+        """Counts what the run proves, to its end."""
+        assert self.ran.stdout  # it is a pipe
+        for line in self.ran.stdout:
+            progress.read(line)
 
     @classmethod
     def of(cls, room: Path, progress: Progress) -> Ahead | None:
         """Such a run, where the build's own is of more than a chain and there are processors, memory and disk for both."""
+        if not progress.left:
+            return None
         top = progress.chain_top()
         is_room = progress.lanes >= AHEAD_PROCESSORS and memory_free() >= AHEAD_OCTETS and shutil.disk_usage(room).free >= 2 * DISK_OCTETS
-        return cls(room, top, progress) if top != progress.left[-1] and is_room and keeps_proofs() else None
+        return cls(room, top, progress) if top not in progress.tops and is_room and keeps_proofs() else None
 
     def end(self) -> None:
         """Ends the run, if it hasn't ended."""
@@ -314,14 +375,16 @@ class Ahead:
         self.ran.wait()
         # what rt itself started may hold the pipe a little longer
         self.reader.join(READER_SECONDS)
+        if not self.reader.is_alive() and self.ran.stdout:
+            self.ran.stdout.close()
 
 
-def copy_closure(room: Path, crates: list[str]) -> None:
-    """Copies the crates, without their must-fail edits and kept work, into a repository of their own."""
-    listed = uses()
-    (room / "crates.txt").write_text("".join(f"{it}{' staticlib' * is_archive(it)}: {' '.join(listed[it])}\n" for it in crates))
+def copy_closure(room: Path, names: list[str]) -> None:
+    """Copies crates, without their must-fail edits and kept work, into a repository of their own."""
+    known = listed()
+    (room / crate_list.LISTED).write_text("".join(known[it].line for it in names))
     shutil.copy(TOP / "HANDLES", room)
-    for crate in crates:
+    for crate in names:
         for part in (*SOURCES, *STORED_RUN):
             path = CRATES / crate / part
             if path.is_dir():
@@ -332,7 +395,7 @@ def copy_closure(room: Path, crates: list[str]) -> None:
 
 def make_archive(made: Path, room: Path, crates: list[str], log: Path) -> None:
     """Makes the archive of a static library, the last of these crates, over the libraries that `rt ci` made of the others in the room."""
-    name, kit = crates[-1], Path(shutil.which("rattle")).resolve().parent.parent
+    name, kit = crates[-1], Path(shutil.which("rattle") or "/").resolve().parent.parent
     own = {it: room / "crates" / it / "out" / "rlib" for it in crates[:-1]}
     words = ["rattle", "build", "--crate-name", name, "src/lib.rt", "--crate-type", "staticlib"]
     for it in ("std", *uses()[name]):
@@ -347,12 +410,13 @@ def make_archive(made: Path, room: Path, crates: list[str], log: Path) -> None:
         raise CantBuild(f"not built: rattle build ended with status {status}, and all that it said is in {log}", NOT_BUILT)
 
 
-def run_rt(room: Path, progress: Progress, log: Path, yields: bool, say) -> int:
+def run_rt(room: Path, progress: Progress, log: Path, yields: bool, say: Say) -> int:
     """Runs `rt ci` over the copy of a program's crates, and answers its status. All that it says is kept in the log. It may yield the
     processors to a run for the longest chain."""
     command = ["nice", "-n", YIELDS, "rt", "ci"] if yields else ["rt", "ci"]
     asked = subprocess.Popen(command, cwd=room, stdin=subprocess.DEVNULL, stdout=subprocess.PIPE, stderr=subprocess.STDOUT, text=True, errors="replace")
     with open(log, "w", encoding="utf-8") as kept, asked as ran:
+        assert ran.stdout  # it is a pipe
         for line in ran.stdout:
             kept.write(line)
             progress.read(line)
@@ -365,30 +429,54 @@ def run_rt(room: Path, progress: Progress, log: Path, yields: bool, say) -> int:
         return ran.wait()
 
 
-def build(say, name: str = NAME) -> None:
-    """Proves what a program stands on, and builds it, or raises why it can't be. What `say` is given is for a person to read."""
+@contextmanager
+def alone(say: Say) -> Iterator[None]:
+    """Only one of several callers builds: the others wait here."""
+    with open(TOP / "dsp_console", "rb") as held:
+        try:
+            fcntl.flock(held, fcntl.LOCK_EX | fcntl.LOCK_NB)
+        except BlockingIOError:
+            say("another dsp_console is building the program: waiting for it")
+            fcntl.flock(held, fcntl.LOCK_EX)
+        yield
+
+
+def build(say: Say, *names: str) -> None:
+    """Builds the programs and libraries of these crates that aren't built from the sources as they stand, in one go, or raises why they
+    can't be. What `say` is given is for a person to read."""
+    with alone(say):
+        missing = tuple(it for it in names or (NAME,) if not is_built(it))
+        if missing:
+            build_missing(say, missing)
+
+
+def build_missing(say: Say, names: tuple[str, ...]) -> None:
+    """Proves what these programs and libraries stand on, and builds them."""
     look_at_kit(say)
     folder = Path(tempfile.gettempdir())
     look_at_disk(folder)
-    crates, sources = closure(name), checksum(name)
-    progress = Progress(crates, say)
+    needed, sources = closure(*names), {it: checksum(it) for it in names}
+    built = [it for it in (NAME, GATEWAY, MIXED, *archives()) if it in uses() and is_built(it)]
+    progress = Progress(needed, say, names, tuple(closure(*built)) if built and keeps_proofs() else ())
     progress.begin()
     log = folder / f"dsp_console-build-{os.getpid()}.log"
     with tempfile.TemporaryDirectory(prefix="dsp_console-build-", dir=folder) as copy:
         room = Path(copy)
-        copy_closure(room, crates)
+        copy_closure(room, needed)
         ahead = Ahead.of(room, progress)
         try:
             status = run_rt(room, progress, log, ahead is not None, say)
         finally:
             if ahead:
                 ahead.end()
-        made = room / path_of(name).relative_to(TOP)
-        if status or not (is_archive(name) or is_made(made, name)):
-            raise CantBuild(f"not built: rt ci ended with status {status}, and all that it said is in {log}", NOT_BUILT)
-        if is_archive(name):
-            make_archive(made, room, crates, log)
-        take(made, name, sources)
+        for name in names:
+            made = room / path_of(name).relative_to(TOP)
+            if status or not (is_archive(name) or is_made(made, name)):
+                raise CantBuild(f"not built: rt ci ended with status {status}, and all that it said is in {log}", NOT_BUILT)
+            if is_archive(name):
+                make_archive(made, room, closure(name), log)
+            take(made, name, sources[name])
+    progress.end()
     log.unlink()
     say("built")
 
@@ -397,7 +485,8 @@ def run_unproved(arguments: list[str], name: str = NAME) -> int:
     """Runs what `rt try` makes of the sources, of which nothing is proved, and returns its exit status."""
     if not shutil.which("rt"):
         raise CantBuild("rt, the command of the Rattle kit, isn't on PATH: install the kit that README.md names (x86-64 Linux)", CANT_BUILD_HERE)
-    print("dsp_console: NOTHING OF THIS PROGRAM IS PROVED: it is made for this one run, in a minute or two", file=sys.stderr, flush=True)
+    called = GATEWAY if name == GATEWAY else "dsp_console"
+    print(f"{called}: NOTHING OF THIS PROGRAM IS PROVED: it is made for this one run, in a minute or two", file=sys.stderr, flush=True)
     return subprocess.run(["rt", "try", "--", *absolute(arguments)], cwd=CRATES / name).returncode
 
 
@@ -407,7 +496,8 @@ VALUED = ("--daram", "--saram", "--external", "--poison", "--in8", "--out8")
 
 def absolute(arguments: list[str]) -> list[str]:
     """The arguments with each file's path made absolute, since `rt try` runs the program in another folder."""
-    made, is_value, are_files = [], False, False
+    made: list[str] = []
+    is_value = are_files = False
     for word in arguments:
         if is_value or (word.startswith("-") and word != "-" and not are_files):
             is_value = not is_value and word in VALUED

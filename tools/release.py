@@ -27,6 +27,7 @@ import sys
 import tarfile
 import time
 from pathlib import Path
+from typing import IO, cast
 
 sys.path.insert(0, str(Path(__file__).resolve().parent))
 sys.dont_write_bytecode = True
@@ -43,8 +44,8 @@ ARCHIVES = ("dsp_library",)
 FILES = ("CHANGELOG.md", "LICENSE", "Makefile", "NOTICE", "SECURITY.md", "VERSION")
 README = "docs/RELEASE.md"
 # The folders whose files a release has, and those within them whose files it hasn't.
-FOLDERS = ("docs/", "examples/", "python/", "c/examples/")
-LEFT_OUT = ("python/tests/",)
+FOLDERS = ("docs/", "examples/", "python/", "c/examples/", "gst/")
+LEFT_OUT = ("python/tests/", "gst/tests/")
 HEADER = "c/rokdaum.h"
 # Where the toolchain says in a program which logic it was proved by, and the versions of the C library that it asks for.
 LOGIC = re.compile(rb"rattle logic=([0-9a-f]{64})")
@@ -208,7 +209,7 @@ def archive(found: dict[str, Entry]) -> bytes:
         return made
 
     with gzip.GzipFile(filename="", mode="wb", compresslevel=9, fileobj=packed, mtime=when) as pressed:
-        with tarfile.open(mode="w", fileobj=pressed, format=tarfile.USTAR_FORMAT) as tar:
+        with tarfile.open(mode="w", fileobj=cast(IO[bytes], pressed), format=tarfile.USTAR_FORMAT) as tar:
             for path in sorted(["", *folders_of(list(found)), *found]):
                 if path in found:
                     text, executable = found[path]

@@ -4,7 +4,8 @@
 
     dialled_digits.py [--picture PICTURE] [IN ..]   up to sixteen; without files it dials 0 to 9 itself, behind a dial tone
 
-The picture shows the first file: its samples, and above them the digit of each frame of the detector. It ends in .svg, .png or .pdf.
+The picture shows the first file: its spectrogram, with the keypad's tones at the right and the digits that the detector heard above them.
+It ends in .svg, .png or .pdf.
 """
 
 from __future__ import annotations
@@ -36,16 +37,20 @@ def dialled(keys: str) -> np.ndarray:
     return rokdaum.samples.from_floats(np.concatenate([*parts, sines((), 0.1)]))
 
 
-def draw(path: str, receiver: rokdaum.design.Digits, samples: np.ndarray, codes: np.ndarray) -> None:
-    """Draws samples over time, and above them the codes: a digit where it is heard in frames one after the other."""
-    axes = rokdaum.plot.new_axes()
-    axes.plot(np.arange(len(samples)) / RATE, samples, linewidth=0.3)
+def draw(path: str, receiver: rokdaum.design.Digits, samples: np.ndarray, codes: np.ndarray, own: bool) -> None:
+    """Draws the spectrogram, lines at the keypad's tones, and above them each digit where it is heard in frames one after the other."""
+    axes = rokdaum.plot.spectrogram(samples, RATE)
+    for row in TONES:
+        for tone in row:
+            axes.axhline(tone, color="white", linewidth=0.4, alpha=0.5)
     frame = len(samples) / max(len(codes), 1) / RATE
     begins = np.flatnonzero(np.diff(codes, prepend=-1))
     for begin, end in zip(begins, [*begins[1:], len(codes)]):
         if codes[begin] >= 0:
-            axes.text((begin + end) / 2 * frame, 16_000, rokdaum.design.KEYS[codes[begin]], ha="center")
-    axes.set(xlabel="s", ylabel="sample", ylim=(-20_000, 20_000), title=f"dialled: {receiver.dialled(codes)}")
+            axes.text((begin + end) / 2 * frame, 1800, rokdaum.design.KEYS[codes[begin]], ha="center", color="white", fontsize=14, fontweight="bold")
+    if own:
+        axes.text(0.5, 560, "dial tone, 350 and 440 Hz", ha="center", color="white")
+    axes.set(ylim=(200, 2000), yticks=[*TONES[0], *TONES[1]], title=f"dialled: {receiver.dialled(codes)}")
     rokdaum.plot.save(axes, path)
 
 
@@ -61,7 +66,7 @@ def main(words: list[str]) -> int:
         with rokdaum.Host() as host:
             found = [host.chain(host.create("dtmf", params=receiver)).feed(samples) for samples in heard]
         if given.picture:
-            draw(given.picture, receiver, heard[0], found[0])
+            draw(given.picture, receiver, heard[0], found[0], not given.files)
     except (rokdaum.RokdaumError, OSError) as why:
         print(f"dialled_digits.py: {why}", file=sys.stderr)
         return 1

@@ -53,12 +53,9 @@ def exchange(blocks: np.ndarray, source: Path, target: Path) -> tuple[np.ndarray
 
 
 def draw(path: str, took: np.ndarray) -> None:
-    """Draws how long each block took."""
-    axes = rokdaum.plot.new_axes()
-    axes.plot(np.arange(len(took)) * PERIOD, took, marker=".", linestyle="none")
-    axes.axhline(1000 * PERIOD, color="C1", linestyle="--", label="a block")
-    axes.set(xlabel="s", ylabel="ms", yscale="log", title="from a block's writing to its last sample's reading")
-    axes.legend()
+    """Draws how many blocks took how long, beside the time that a block lasts."""
+    axes = rokdaum.plot.latency(took, 1000 * PERIOD)
+    axes.set(title=f"from a block's writing to its last sample's reading: {len(took):,} blocks")
     rokdaum.plot.save(axes, path)
 
 

@@ -39,8 +39,10 @@ def draw(path: str, histories: list[rokdaum.maps.History]) -> None:
     axes.remove()
     for one, history, title in zip(both, histories, ("a group for every two lines", "one group for all")):
         rokdaum.plot.memory(history, "daram", one)
-        one.set(xlabel="lines that are open", title=f"daram, {title}")
-    both[0].set_ylim(0, GROUPS * 1200)
+        used = history.moments[-1].maps["daram"].used
+        one.set(xlabel="lines that are open", title=f"{title}: {used:,} words of daram")
+    both[1].set_ylabel("")
+    both[0].set_ylim(0, 1.05 * max(history.moments[-1].maps["daram"].used for history in histories))
     rokdaum.plot.save(both[0], path)
 
 

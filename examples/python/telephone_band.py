@@ -27,11 +27,16 @@ def power(samples: np.ndarray) -> np.ndarray:
 
 
 def draw(path: str, rate: float, heard: np.ndarray, band: rokdaum.design.Biquads) -> None:
-    """Draws the gain that was heard over the response of the words and the designed one."""
-    axes = rokdaum.plot.response(band)
-    axes.plot(np.arange(len(heard))[::4] * rate / SEGMENT, heard[::4], label="heard", marker="o", markersize=3, linestyle="none")
+    """Draws the gain that was measured over the response of the words and the designed one, and below it by how much both are off."""
+    axes = rokdaum.plot.design(band)
+    frequencies = np.arange(len(heard))[4::4] * rate / SEGMENT
+    axes.plot(frequencies, heard[4::4], label="measured", marker="o", markersize=3, linestyle="none", color="C2")
     axes.set(title="the telephone band, 300 to 3,400 Hz", ylim=(-60, 5))
     axes.legend()
+    lower = axes.figure.axes[1]
+    off = heard[4::4] - rokdaum.design.decibels(band.designed_response(frequencies))
+    lower.plot(frequencies, off, marker="o", markersize=3, linestyle="none", color="C2")
+    lower.set(ylabel="over designed, dB", ylim=(-1, 1))
     rokdaum.plot.save(axes, path)
 
 

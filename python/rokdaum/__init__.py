@@ -45,3 +45,8 @@ def __getattr__(name: str) -> object:
     if name in MODULES:
         return importlib.import_module(f".{name}", __name__)
     raise AttributeError(f"module {__name__!r} has no attribute {name!r}")
+
+
+def __dir__() -> list[str]:
+    """The names that are there for users, also those that weren't used yet, so that a shell completes them."""
+    return sorted([*__all__, "__version__"])

@@ -17,14 +17,16 @@ from __future__ import annotations
 
 import itertools
 import math
+import sys
 from collections.abc import Sequence
 from dataclasses import dataclass
 from functools import cached_property
+from pathlib import Path
 from types import ModuleType
 
 import numpy as np
 
-from .errors import DesignError, MissingPackage, NotStable
+from .errors import CantRead, DesignError, MissingPackage, NotStable
 
 Q12, Q14, Q15 = 4096, 16384, 32768
 DEFAULT_RATE = 8000.0
@@ -264,8 +266,12 @@ class Tones:
         return tuple(it for one in self.detectors for it in one.creations)
 
     def warnings(self) -> list[str]:
-        """What the detectors warn of."""
-        return [text for one in self.detectors for text in one.warnings()]
+        """What the detectors warn of, and whether their levels can be compared."""
+        found = [text for one in self.detectors for text in one.warnings()]
+        shifts = [one.shift for one in self.detectors]
+        if len(set(shifts)) > 1:
+            found.append(f"the shifts differ, and a level falls to a quarter for each bit: to compare these levels take one shift for all, {max(shifts)}")
+        return found
 
     def lines(self, first: int = 0, group: int = 0, channel: int = 0, share: bool = True) -> list[str]:
         """The lines of a script: a creation and a chain for each tone. All are in one group, since they hear their frames by turns."""
@@ -277,8 +283,26 @@ class Tones:
         return made + [chain(channel + at, [first + at]) for at in range(count)]
 
 
+class OneInstance:
+    """What is one instance in a channel of its own."""
+
+    @property
+    def creations(self) -> tuple[Creation, ...]:
+        """The kind and the words of the instance."""
+        raise NotImplementedError
+
+    def warnings(self) -> list[str]:
+        """What is odd about it."""
+        return []
+
+    def lines(self, first: int = 0, group: int = 0, channel: int = 0, share: bool = False) -> list[str]:
+        """The lines of a script: the creation and the chain."""
+        look_at_places(first, group, channel, 1)
+        return [create(first, group, *self.creations[0]), chain(channel, [first])]
+
+
 @dataclass(frozen=True)
-class Gain:
+class Gain(OneInstance):
     """A gain: its factor in Q12. `asked` is the gain in dB that was asked for."""
 
     asked: float
@@ -296,7 +320,7 @@ class Gain:
 
 
 @dataclass(frozen=True)
-class Level:
+class Level(OneInstance):
     """A meter of energy: frames of `frame` samples, each shifted to the right by `shift` bits."""
 
     frame: int
@@ -313,7 +337,7 @@ class Level:
 
 
 @dataclass(frozen=True)
-class Digits:
+class Digits(OneInstance):
     """A detector of dialled digits at 8,000 samples a second, with the rule by which frames are digits."""
 
     words: tuple[int, ...]
@@ -557,6 +581,34 @@ def fir(kind: str, edges: Sequence[float], taps: int = 63, rate: float = DEFAULT
     return Fir(rounded_taps(values, scale), values, rate)
 
 
+def taps(values: Sequence[float] | np.ndarray, rate: float = DEFAULT_RATE, scale: str = "tones") -> Fir:
+    """Coefficients of your own, as scipy.signal.remez, firls or firwin give them, that of the newest sample first, as words of Q15."""
+    given = np.asarray(values, dtype=float)
+    if given.ndim != 1 or not np.isfinite(given).all():
+        raise DesignError(f"coefficients have shape (coefficients,), and these have {given.shape}")
+    return Fir(rounded_taps(given, scale), given, rate)
+
+
+def numbers_of(path: str, columns: int) -> np.ndarray:
+    """The numbers of a file, shape (rows, columns): `.npy` as numpy.save writes it, else text, a row a line, with spaces or commas between; - is the
+    standard input. With one column the numbers of one row are taken too. Raises CantRead."""
+    try:
+        if path.endswith(".npy"):
+            given = np.load(path, allow_pickle=False)
+        else:
+            text = sys.stdin.read() if path == "-" else Path(path).read_text(encoding="utf-8", errors="replace")
+            rows = [line.partition("#")[0].replace(",", " ").split() for line in text.splitlines()]
+            given = np.array([[float(word) for word in row] for row in rows if row])
+    except OSError as why:
+        raise CantRead(f"{path}: {why.strerror}") from None
+    except ValueError as why:
+        raise CantRead(f"{path}: {why}: a row is numbers with spaces or commas between them, as many in each") from None
+    given = np.atleast_1d(np.squeeze(np.asarray(given, dtype=float))) if columns == 1 else np.atleast_2d(given)
+    if given.size == 0 or (given.ndim != 1 if columns == 1 else given.ndim != 2 or given.shape[1] != columns):
+        raise CantRead(f"{path} has numbers of shape {given.shape}, and {'a row or a column of them' if columns == 1 else f'rows of {columns}'} is needed")
+    return given
+
+
 def decim(factor: int, taps: int = 64, edge: float | None = None, rate: float = DEFAULT_RATE, scale: str = "tones") -> Fir:
     """A decimator by `factor` with its low pass. `edge`, in Hz, is 0.4 of the new rate where nothing is said."""
     if not 1 <= factor <= 16:
@@ -569,7 +621,8 @@ def decim(factor: int, taps: int = 64, edge: float | None = None, rate: float = 
 def tones(frequencies: Sequence[float], frame: int = 205, shift: int | None = None, rate: float = DEFAULT_RATE) -> Tones:
     """Detectors of tones at frequencies in Hz, by frames of `frame` samples, 1 to 1,024.
 
-    Where no `shift` is named each has the least for which no tone of full scale at its frequency saturates.
+    All have one shift, so that their levels can be compared: the least, where none is named, for which no tone of full scale at any of these
+    frequencies saturates.
     """
     for frequency in frequencies:
         look_at_edges([frequency], rate)
@@ -577,12 +630,12 @@ def tones(frequencies: Sequence[float], frame: int = 205, shift: int | None = No
         raise DesignError("no frequency is named")
     if not 1 <= frame <= 1024 or shift is not None and not 0 <= shift <= 15:
         raise DesignError(f"a frame has 1 to 1024 samples and a shift is 0 to 15, and {frame} and {shift} are asked for")
-    made = []
-    for frequency in frequencies:
-        k = min(32767, round(Q15 * math.cos(2 * math.pi * frequency / rate)))
-        tried = (Tone(frequency, k, frame, it, rate) for it in ([shift] if shift is not None else range(16)))
-        made.append(next((one for one in tried if shift is not None or one.overflow() <= 1), Tone(frequency, k, frame, 15, rate)))
-    return Tones(tuple(made))
+    words = [(frequency, min(32767, round(Q15 * math.cos(2 * math.pi * frequency / rate)))) for frequency in frequencies]
+    for tried in [shift] if shift is not None else range(16):
+        made = Tones(tuple(Tone(frequency, k, frame, tried, rate) for frequency, k in words))
+        if shift is not None or all(one.overflow() <= 1 for one in made.detectors):
+            break
+    return made
 
 
 def gain(asked: float) -> Gain:

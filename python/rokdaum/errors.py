@@ -90,7 +90,7 @@ class LibraryMissing(RokdaumError):
 
 
 class WrongThread(RokdaumError):
-    """A host is used in another thread than the one that opened it."""
+    """A host is called while a call of another thread is under way. That call goes on."""
 
 
 class Refused(RokdaumError):

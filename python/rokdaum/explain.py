@@ -15,7 +15,7 @@ LONGEST_LINE = 1024
 LONGEST_FEED = 1024
 # The kinds of dsp_console, and those that gateway_console and the C library have beside them.
 KINDS = ("fir", "decim", "biquad", "tone", "g711")
-GATEWAY_KINDS = ("gain", "level", "dtmf")
+GATEWAY_KINDS = ("gain", "level", "dtmf", "echo", "adpcm", "signal")
 SPACES = ("daram", "saram", "external")
 FORMS = {
     "create": "create I KIND G W ..",
@@ -39,10 +39,15 @@ PARAMETERS = {
     "gain": "one word, the factor in Q12",
     "level": "N (1 to 1024) and s (0 to 15)",
     "dtmf": "N (1 to 127), s (0 to 14), the threshold, the limits of twist down and up, the dominance and the share",
+    "echo": "N (1 to 256), the step in Q15, the share in Q15 and the pairs of a hold",
+    "adpcm": "the kbit/s (16, 24, 32 or 40) and the direction (0 encodes, 1 decodes)",
+    "signal": "the seven words k1 s1 k2 s2 on off count",
 }
 SET_TAKES = {"fir": "as many coefficients as it has", "biquad": "five words", "tone": "one word, k", "gain": "one word, the factor"}
 # Where the words of a kind that divides have the samples that it takes for one that it gives.
 DIVISOR_AT = {"decim": 0, "tone": 1, "level": 0, "dtmf": 0}
+# A kind that takes samples by pairs.
+PAIRS = ("echo",)
 
 
 @dataclass(frozen=True)
@@ -55,7 +60,9 @@ class Instance:
 
     @property
     def divides_by(self) -> int:
-        """How many samples it takes for one that it gives: M of a decimator, N of a detector or a meter, else 1."""
+        """How many samples it takes for one that it gives: M of a decimator, N of a detector or a meter, 2 of an echo canceller, else 1."""
+        if self.kind in PAIRS:
+            return 2
         return self.words[DIVISOR_AT[self.kind]] if self.kind in DIVISOR_AT else 1
 
 

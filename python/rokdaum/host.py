@@ -1,5 +1,5 @@
 # SPDX-License-Identifier: Apache-2.0
-"""A host of signal algorithms in the process: instances of eight algorithms in three memory spaces, fed with arrays of int16.
+"""A host of signal algorithms in the process: instances of eleven algorithms in three memory spaces, fed with arrays of int16.
 
     with rokdaum.Host(daram=4096) as host:
         half = host.create("fir", params=[16384])
@@ -15,16 +15,17 @@ import ctypes
 import operator
 import threading
 import weakref
-from collections.abc import Iterable, Mapping
+from collections.abc import Iterable, Iterator, Mapping
+from contextlib import contextmanager
 from ctypes import c_int, c_int16, c_int32, c_size_t, c_uint8, c_uint32, c_uint64
 from dataclasses import dataclass, field
-from typing import TYPE_CHECKING, NamedTuple, Protocol
+from typing import TYPE_CHECKING, Any, BinaryIO, NamedTuple, Protocol
 
 import numpy as np
 
 from . import library
-from .errors import REFUSALS, BadKind, BadSize, BadSpace, FloatsRefused, Missing, NotOpen, Params, Range, Refused, Room, Taken, WrongThread
-from .explain import PARAMETERS, SET_TAKES
+from .errors import REFUSALS, BadKind, BadSize, BadSpace, FloatsRefused, Missing, NotOpen, OutOfRange, Params, Range, Refused, Room, Taken, WrongThread
+from .explain import DIVISOR_AT, PAIRS, PARAMETERS, SET_TAKES
 from .library import CHANNELS, GROUPS, INSTANCES, KINDS, MAP_BLOCKS, PARAMETER_WORDS, SPACE_WORDS, SPACES
 from .maps import Block, History, Map, Moment
 from .samples import as_words
@@ -32,6 +33,8 @@ from .samples import as_words
 if TYPE_CHECKING:
     from matplotlib.axes import Axes
 
+# The samples of a block of a stream, where nothing is said.
+BLOCK = 1024
 Q_OF_KIND = {
     "fir": "a coefficient of Q15 is round(32768 * value)",
     "decim": "a coefficient of Q15 is round(32768 * value)",
@@ -41,6 +44,9 @@ Q_OF_KIND = {
     "gain": "a factor of Q12 is round(4096 * value)",
     "level": "a frame is 1 to 1,024 samples, a shift 0 to 15 bits",
     "dtmf": "rokdaum.design.dtmf() has the recommended words",
+    "echo": "the step and the share are words of Q15: round(32768 * value)",
+    "adpcm": "the kbit/s are 16, 24, 32 or 40, the direction 0 (encodes) or 1 (decodes)",
+    "signal": "k is round(32768 * cos(a)) and s round(32768 * amplitude * sin(a)), a = 2 * pi * frequency / rate",
 }
 
 
@@ -114,7 +120,7 @@ class Instance:
         """What it tells of itself, as int16 of shape (words,). Raises Missing.
 
         The coefficients of a FIR or a biquad, the factor of a gain; the samples since a decimator's last output; the samples in the frame of a tone, a
-        meter or a detector of digits; the law and the direction of G.711.
+        meter or a detector of digits; the law and the direction of G.711; the samples of an echo canceller's pair; the parameters of G.726 or a generator.
         """
         words, count = (c_int16 * PARAMETER_WORDS)(), c_uint32()
         self.host._own(self)
@@ -143,7 +149,7 @@ class Line:
         """Passes samples through the members, and returns what the last one gives.
 
         `samples` has shape (samples,) and any length; whole numbers of any type, -32768 to 32767, each 1 / 32768 of full scale. The answer is int16 of
-        shape (given,): one for each sample, behind a decimator by M one for M, behind a tone, a level or a dtmf one for each frame. G.711 takes and gives codes,
+        shape (given,): one for each sample, behind a decimator by M one for M, behind an echo one for two, behind a tone, a level or a dtmf one for each frame. G.711 takes and gives codes,
         0 to 255, as numbers. What a member has heard stays, so the cut of a signal into calls doesn't show in what is given.
 
         Raises FloatsRefused for floats, OutOfRange for another shape or for numbers that don't fit, and Missing; nothing was fed then.
@@ -154,6 +160,17 @@ class Line:
         where = (given.ctypes.data_as(library.WORDS), len(given), out.ctypes.data_as(library.WORDS), len(out))
         self.host._do(f"feed {len(given)} samples to channel {self.channel}", "feed_all", self.channel, *where, count)
         return out if count.value == len(out) else out[: count.value].copy()
+
+    def stream(self, source: Iterable[object] | BinaryIO, block: int = BLOCK) -> Iterator[np.ndarray]:
+        """Passes a stream through the members, block by block: what each block gives, as `feed` has it, as soon as it is there.
+
+        `source` is blocks of samples, or an open file of 16-bit words, low byte first, of which so many samples are read at a time till its end; an odd
+        last byte is no sample. Raises what `feed` raises, and OutOfRange for a block of less than a sample.
+        """
+        if block < 1:
+            raise OutOfRange(f"a block has a sample or more, and {block} are asked for")
+        for given in words_of_file(source, block) if hasattr(source, "read") else source:
+            yield self.feed(given)
 
     def unchain(self) -> None:
         """Takes the members from the channel. They live on, with all that they have heard. Raises Missing."""
@@ -169,8 +186,9 @@ class Host:
     lines there may be, 1 to 16. Where `poison` is a word (-32768 to 32767, or 0 to 65,535), it fills each new block, and a group's scratch memory
     whenever an instance was deactivated; no output depends on it.
 
-    Each call is refused by an exception of `rokdaum.errors`, and the host is then as it was. A host is used in the thread that opened it, and
-    another thread gets WrongThread; hosts in different threads run at the same time.
+    Each call is refused by an exception of `rokdaum.errors`, and the host is then as it was. A host takes one call at a time, from any thread, and
+    a call that comes while another thread's is under way gets WrongThread: threads that share a host order their calls, by a lock for instance.
+    Different hosts run at the same time.
 
     Raises BadSize, Range for a poison that is no word, NoMemory, and LibraryMissing where there is no C library.
     """
@@ -181,7 +199,7 @@ class Host:
         self.channels: int = options.channels
         self._living: dict[int, Instance] = {}
         self._lines: dict[int, Line] = {}
-        self._thread = threading.get_ident()
+        self._call = threading.Lock()  # held while a call is under way
         self._library, self._handle = library.load(), library.Handle()
         self._do("open a host", "open", options)
         # A host that nobody holds any more is closed by whoever finds that: no call of it can be under way then.
@@ -195,8 +213,8 @@ class Host:
 
     def close(self) -> None:
         """Deletes every instance and frees all memory. Each later call but this one raises NotOpen. Raises WrongThread."""
-        self._look_at_thread()
-        self._close()
+        with self._alone():
+            self._close()
         self._living.clear()
         self._lines.clear()
 
@@ -215,6 +233,9 @@ class Host:
         - `gain`: the factor in Q12
         - `level`: the frame in samples, 1 to 1,024, and the shift, 0 to 15
         - `dtmf`: seven words, of which `rokdaum.design.dtmf()` has two sets
+        - `echo`: 1 to 256 coefficients, the step and the share in Q15, and for how many pairs it then doesn't learn; it takes pairs, the far end's sample first
+        - `adpcm`: 16, 24, 32 or 40 kbit/s, then 0 to encode or 1 to decode
+        - `signal`: k1 s1 k2 s2 of two tones, the samples on and off, and the number of cycles, 0 without end
 
         Raises Room, with the space that is full, Params, Taken where the number lives or none is free, Range for a number, a group or a word that
         is too large, BadLength for more than 72 words, BadKind, and FloatsRefused for floats.
@@ -293,6 +314,24 @@ class Host:
 
     # ---- Memory and scratch groups ----
 
+    def feed(self, samples: object, *lines: Line) -> np.ndarray:
+        """Passes a column of an array through each line: `samples` has shape (samples, lines), as soundfile and sounddevice have it, and so has the
+        answer, of int16. Without `lines` they are all lines of the host, in the order of their channels.
+
+        A line that gives fewer samples than it takes is refused, since columns have one length: feed it by itself. Raises OutOfRange, FloatsRefused and
+        Missing as `Line.feed` does; nothing was fed then.
+        """
+        through = lines or self.lines
+        given = np.asarray(samples)
+        if given.ndim != 2 or given.shape[1] != len(through):
+            raise OutOfRange(f"samples have shape (samples, {len(through)}), a column for each line, and these have {given.shape}")
+        for line in through:
+            self._own(line)
+            if slow := [it.kind for it in line.members if it.kind in DIVISOR_AT or it.kind in PAIRS]:
+                raise OutOfRange(f"a {slow[0]} gives fewer samples than it takes, and columns have one length: feed channel {line.channel} by itself")
+        columns = [as_words(given[:, at]) for at in range(len(through))]
+        return np.stack([line.feed(column) for line, column in zip(through, columns)], axis=1) if columns else np.empty(given.shape, np.int16)
+
     def step(self, space: str) -> bool:
         """Moves the first block of a space that can be moved down, and tells whether one was. Outputs don't depend on it. Raises BadSpace."""
         moved = c_uint32()
@@ -338,12 +377,17 @@ class Host:
 
     # ---- Calls ----
 
-    def _look_at_thread(self) -> None:
-        if threading.get_ident() != self._thread:
-            raise WrongThread("a host is used in the thread that opened it: open one in each thread")
+    @contextmanager
+    def _alone(self) -> Iterator[None]:
+        """Keeps other calls away for as long as one is under way. Raises WrongThread where another one is."""
+        if not self._call.acquire(blocking=False):
+            raise WrongThread("another call of this host is under way: threads that share a host order their calls, by a lock for instance")
+        try:
+            yield
+        finally:
+            self._call.release()
 
     def _look_open(self) -> None:
-        self._look_at_thread()
         if not self._close.alive:
             raise NotOpen("the host was closed, and all that lived in it is gone")
 
@@ -356,9 +400,9 @@ class Host:
             raise Missing(f"{what} any more, or is of another host")
 
     def _code(self, call: str, *arguments: object) -> int:
-        """What a call of the library answers."""
-        self._look_at_thread()
-        return getattr(self._library, f"rokdaum_{call}")(self._handle, *arguments)
+        """What a call of the library answers. Raises WrongThread."""
+        with self._alone():
+            return getattr(self._library, f"rokdaum_{call}")(self._handle, *arguments)
 
     def _refuse(self, code: int, what: str, hint: str = "") -> None:
         """Raises what a code stands for, but for that of success."""
@@ -369,6 +413,15 @@ class Host:
     def _do(self, what: str, call: str, *arguments: object, hint: str = "") -> None:
         """Makes a call that is answered by a code alone."""
         self._refuse(self._code(call, *arguments), what, hint)
+
+
+def words_of_file(file: Any, block: int) -> Iterator[np.ndarray]:
+    """The words of an open file, so many at a time, till its end."""
+    while octets := file.read(2 * block):
+        # A raw file, and a pipe, give what there is.
+        while len(octets) < 2 * block and (more := file.read(2 * block - len(octets))):
+            octets += more
+        yield np.frombuffer(octets[: len(octets) // 2 * 2], "<i2")
 
 
 def options_of(sizes: Mapping[str, int], channels: int, poison: int | None) -> library.Options:

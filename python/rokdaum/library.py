@@ -27,7 +27,7 @@ NAME = "librokdaum.so"
 # The limits of rokdaum.h.
 SPACE_WORDS, INSTANCES, GROUPS, CHANNELS, PARAMETER_WORDS, MAP_BLOCKS = 65536, 64, 8, 16, 72, 264
 # The order of rokdaum_kind and of rokdaum_space.
-KINDS = ("fir", "decim", "biquad", "tone", "g711", "gain", "level", "dtmf")
+KINDS = ("fir", "decim", "biquad", "tone", "g711", "gain", "level", "dtmf", "echo", "adpcm", "signal")
 SPACES = ("daram", "saram", "external")
 # rokdaum_law.
 LAWS = {"a": 0, "mu": 1}
@@ -98,7 +98,7 @@ def candidates() -> list[str]:
         return [named]
     package = Path(__file__).resolve().parent
     found = [path for path in (package / NAME, package.parent.parent / "out" / "c" / NAME) if path.is_file()]
-    return [*map(str, found), f"{NAME}.{__version__}", NAME]
+    return [*map(str, found), f"{NAME}.{__version__.split('.')[0]}", NAME]
 
 
 def open_first(names: list[str]) -> ctypes.CDLL:

@@ -18,6 +18,7 @@ SPACES = ("daram", "saram", "external")
 SIZE = 65536
 BLOCK = re.compile(r"(i\d+\.r\d+|g\d+)@(\d+)\+(\d+)")
 WIDTH = 64
+NEXT = ",\n"
 FREE = "."
 
 
@@ -102,13 +103,26 @@ class Moment:
     active: Mapping[int, int | None]
 
 
+class Said(NamedTuple):
+    """A line that was answered, its reply, and what it needs where it was refused."""
+
+    line: int
+    text: str
+    reply: str
+    why: str = ""
+
+
 @dataclass
 class History:
-    """The moments of a run at which something changed. `sizes` has the words of each space, `last` the number of the last line."""
+    """The moments of a run at which something changed. `sizes` has the words of each space, `last` the number of the last line.
+
+    `said` has each line with its reply, where those are known.
+    """
 
     sizes: Mapping[str, int] = field(default_factory=lambda: dict.fromkeys(SPACES, SIZE))
     moments: list[Moment] = field(default_factory=list)
     last: int = 0
+    said: list[Said] = field(default_factory=list)
 
     def add(self, line: int, text: str, replies: Mapping[str, str], active: Mapping[int, int | None]) -> None:
         """Takes the replies to `map`, by space, and the active members behind a line. Spaces that aren't named stay as they were."""
@@ -120,33 +134,30 @@ class History:
             self.moments.append(now)
 
     def to_json(self) -> str:
-        """The history as JSON, which `from_json` reads."""
-        moments = [
-            {
-                "line": moment.line,
-                "text": moment.text,
-                "maps": {space: {"words": it.words, "blocks": [block._asdict() for block in it.blocks]} for space, it in moment.maps.items()},
-                "active": dict(moment.active),
-            }
-            for moment in self.moments
-        ]
-        return json.dumps({"sizes": dict(self.sizes), "last": self.last, "moments": moments}, indent=1)
+        """The history as JSON, which `from_json` reads. A moment has the spaces and groups that changed at it alone, a moment and a line of the script each a line."""
+        before, rows = Moment(0, "", {}, {}), []
+        for moment in self.moments:
+            maps = {space: [it.words, *it.blocks] for space, it in moment.maps.items() if before.maps.get(space) != it}
+            active = {group: member for group, member in moment.active.items() if group not in before.active or before.active[group] != member}
+            rows.append(json.dumps({"line": moment.line, "text": moment.text, "maps": maps, "active": active}))
+            before = moment
+        said = [json.dumps(it) for it in self.said]
+        head = f'{{"sizes": {json.dumps(dict(self.sizes))}, "last": {self.last}'
+        return f'{head}, "moments": [\n{NEXT.join(rows)}],\n"said": [\n{NEXT.join(said)}]}}'
 
     @classmethod
     def from_json(cls, text: str) -> History:
         """The history that `to_json` wrote. Raises NotAMap where the text is another."""
         try:
             found = json.loads(text)
-            moments = [
-                Moment(
-                    int(one["line"]),
-                    str(one["text"]),
-                    {space: Map(int(it["words"]), tuple(Block(**block) for block in it["blocks"])) for space, it in one["maps"].items()},
-                    {int(group): member for group, member in one["active"].items()},
-                )
-                for one in found["moments"]
-            ]
-            return cls({str(space): int(size) for space, size in found["sizes"].items()}, moments, int(found["last"]))
+            moments: list[Moment] = []
+            for one in found["moments"]:
+                before = moments[-1] if moments else Moment(0, "", {}, {})
+                maps = {space: Map(int(words), tuple(Block(str(owner), int(place), int(size)) for owner, place, size in blocks)) for space, (words, *blocks) in one["maps"].items()}
+                active = {int(group): member for group, member in one["active"].items()}
+                moments.append(Moment(int(one["line"]), str(one["text"]), {**before.maps, **maps}, {**before.active, **active}))
+            said = [Said(int(line), str(spoken), str(reply), str(why)) for line, spoken, reply, why in found["said"]]
+            return cls({str(space): int(size) for space, size in found["sizes"].items()}, moments, int(found["last"]), said)
         except (ValueError, KeyError, TypeError, AttributeError) as why:
             raise NotAMap(f"no history of dsp_run: {why!r}") from None
 
@@ -159,6 +170,7 @@ def from_replies(replies: Iterable[str], sizes: Mapping[str, int], space: str = 
     """The history of replies alone: each that names a block is taken for a map of `space`."""
     found = History(sizes)
     for number, reply in enumerate(replies, 1):
+        found.said.append(Said(number, f"reply {number}", reply))
         if reply.startswith("ok ") and "@" in reply:
             found.add(number, f"reply {number}", {space: reply}, {})
     return found
@@ -169,6 +181,7 @@ def from_run(lines: Iterable[tuple[int, str]], replies: Sequence[str], sizes: Ma
     found = History(sizes)
     for (number, text), reply in zip(lines, replies):
         words = text.split()
+        found.said.append(Said(number, text.strip(), reply))
         if words[:1] == ["map"] and reply.split()[:1] == ["ok"] and words[1] in SPACES:
             found.add(number, text, {words[1]: reply}, {})
         elif words[:1] == ["stat"] and reply.split()[:1] == ["ok"]:

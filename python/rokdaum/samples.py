@@ -2,7 +2,7 @@
 """Arrays of 16-bit samples: from files, to files, and from floats.
 
 A sample is a whole number from -32768 to 32767, and stands for that many 32768ths of full scale. Files have words of 16 bits, the low byte first,
-without a header, or are WAV files of one channel where their name ends in `.wav`.
+without a header, or another form that their name says (`sounds`).
 """
 
 from __future__ import annotations
@@ -14,7 +14,7 @@ from pathlib import Path
 import numpy as np
 
 from .errors import FloatsRefused, OutOfRange
-from .ports import is_wave, raw_to_wave, read_head, wave_to_raw
+from .sounds import Named, from_raw, has_form, to_raw
 
 FULL_SCALE = 32768
 
@@ -33,7 +33,7 @@ def as_words(values: object, octets: bool = False) -> np.ndarray:
     if given.dtype.kind not in "iuf":
         raise FloatsRefused(f"samples are whole numbers, and these are {given.dtype}")
     if given.ndim != 1:
-        raise OutOfRange(f"samples have shape (samples,), and these have {given.shape}: a channel is an array of its own, x[:, 0] for the first of a stereo file")
+        raise OutOfRange(f"samples have shape (samples,), and these have {given.shape}: a line takes an array of its own, x[:, 0] for the first of a stereo file, and host.feed(x) a column for each line")
     least, most = (0, 255) if octets else (-32768, 32767)
     if given.size and not (least <= int(given.min()) and int(given.max()) <= most):
         raise OutOfRange(f"{'a byte' if octets else 'a sample'} is {least} to {most}, and these are {int(given.min())} to {int(given.max())}")
@@ -60,21 +60,22 @@ def to_floats(words: object) -> np.ndarray:
 def read(path: str | os.PathLike[str]) -> tuple[np.ndarray, int | None]:
     """The samples of a file as int16 of shape (samples,), and its samples a second in Hz, None where it has no header.
 
-    Raises WrongWave where a WAV file isn't of one channel of 16 bits, and OSError where the file can't be read.
+    The name says the form, as for `dsp_run`: WAV, FLAC, AU or AIFF, `.ul` and `.al` codes of G.711, which are decoded, and words without a header for
+    all others; `call.wav:1` is the second channel. Raises WrongWave where the file can't be read so, MissingPackage where libsndfile is needed and
+    isn't there, and OSError where the file can't be read.
     """
-    source = Path(path)
-    if not is_wave(source):
-        octets = source.read_bytes()
+    named = Named.of(Path(path))
+    if not has_form(named.path):
+        octets = named.path.read_bytes()
         return np.frombuffer(octets[: len(octets) // 2 * 2], "<i2").astype(np.int16), None
-    head = read_head(source)
     with tempfile.TemporaryDirectory(prefix="rokdaum-") as folder:
         raw = Path(folder, "raw")
-        wave_to_raw(source, raw)
-        return np.fromfile(raw, "<i2").astype(np.int16), head.rate
+        held = to_raw(named, raw)
+        return np.fromfile(raw, "<i2").astype(np.int16), held.rate
 
 
 def write(path: str | os.PathLike[str], values: object, rate: float = 8000) -> None:
-    """Writes samples, shape (samples,), to a file, as a WAV file of `rate` samples a second where its name ends in `.wav`.
+    """Writes samples, shape (samples,), to a file, in the form that its name says, of `rate` samples a second where that has a header.
 
     The file is replaced whole. Raises FloatsRefused and OutOfRange as `as_words` does, and then leaves the file as it was.
     """
@@ -82,6 +83,6 @@ def write(path: str | os.PathLike[str], values: object, rate: float = 8000) -> N
     with tempfile.TemporaryDirectory(prefix=".rokdaum-", dir=target.parent) as folder:
         raw, made = Path(folder, "raw"), Path(folder, "made")
         raw.write_bytes(words.tobytes())
-        if is_wave(target):
-            raw_to_wave(raw, made, rate)
-        os.replace(made if is_wave(target) else raw, target)
+        if has_form(target):
+            from_raw(raw, made, target, rate)
+        os.replace(made if has_form(target) else raw, target)

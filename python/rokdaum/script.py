@@ -29,8 +29,9 @@ from pathlib import Path
 from typing import TYPE_CHECKING
 
 from .errors import CantRead, OutOfRange, ProgramFailed, ProgramMissing, ScriptError
-from .explain import LONGEST_FEED, LONGEST_LINE, SPACES, Circuit, hint, is_number, notes_on_channel
-from .maps import History, parse_stat
+from .explain import GATEWAY_KINDS, LONGEST_FEED, LONGEST_LINE, SPACES, Circuit, Instance, hint, is_number, notes_on_channel
+from .maps import History, Said, parse_map, parse_stat
+from .memory import room_needed
 from .ports import Pair, Settings, Staged, look_at_files
 
 if TYPE_CHECKING:
@@ -38,6 +39,7 @@ if TYPE_CHECKING:
 
 LONGEST_SCRIPT = 1_000_000_000
 DEFAULT_RATE = 8000.0
+HIGHEST_RATE = 1_000_000
 NOT_SERVED = 70
 # Lines that are sent before their replies are read: a pipe holds them whatever the program does meanwhile, so neither side waits for the other.
 LINES_AHEAD = 64
@@ -164,18 +166,38 @@ def read_script(path: str | os.PathLike[str]) -> list[Line]:
     return parse(octets.decode("utf-8", "surrogateescape"), str(path))
 
 
-def find_program(named: str | None = None) -> list[str]:
-    """The words that start `dsp_console`: those named, else those of DSP_CONSOLE, else the command of this repository, else the one on PATH.
+def written_by(reply: str) -> int:
+    """How many samples a feed has written, by its reply. Raises ProgramFailed where it is none."""
+    found = re.fullmatch(r"ok ([0-9]+)", reply)
+    if not found:
+        raise ProgramFailed(NOT_SERVED, f"the program has answered a feed by {reply[:60]!r}, which is no reply of dsp_console; no output was changed")
+    return int(found[1])
+
+
+def names_gateway_kinds(lines: Sequence[Line]) -> bool:
+    """Whether a line creates an instance of a kind that `gateway_console` alone has."""
+    return any(len(line.words) > 2 and line.words[0] == "create" and line.words[2] in GATEWAY_KINDS for line in lines)
+
+
+def find_program(named: str | None = None, name: str = "dsp_console") -> list[str]:
+    """The words that start `dsp_console`, or the program of this name: those named, else those of DSP_CONSOLE, else the command of this repository, else the
+    one on PATH.
 
     Raises ProgramMissing where there is none.
     """
     words = shlex.split(named or os.environ.get("DSP_CONSOLE") or "")
-    if not words and os.access(REPOSITORY / "dsp_console", os.X_OK):
-        words = [str(REPOSITORY / "dsp_console")]
-    words = words or ["dsp_console"]
+    if not words and os.access(REPOSITORY / name, os.X_OK):
+        words = [str(REPOSITORY / name)]
+    words = words or [name]
     if not shutil.which(words[0]):
-        raise ProgramMissing(f"{words[0]}: there is no such program: name dsp_console by --program or by DSP_CONSOLE")
+        raise ProgramMissing(f"{words[0]}: there is no such program: name {name} by --program or by DSP_CONSOLE")
     return words
+
+
+def look_at_descriptors() -> None:
+    """Refuses a machine where a program can't open its standard input by name, as the script is handed to it. Raises CantRead."""
+    if not os.path.isdir("/dev/fd"):
+        raise CantRead("no /proc: the program gets its script as /dev/stdin, which leads there: mount -t proc proc /proc")
 
 
 @contextmanager
@@ -196,15 +218,15 @@ def holding_signals() -> Iterator[None]:
 class Session:
     """A running `dsp_console` whose script is a pipe: `with Session(words) as session`. However that ends, the program has ended then."""
 
-    def __init__(self, words: Sequence[str]) -> None:
-        self.words = words
+    def __init__(self, words: Sequence[str], kept: Sequence[int] = ()) -> None:
+        self.words, self.kept = words, kept
         self.sent = 0
 
     def __enter__(self) -> Session:
         # A signal between the start and its note here would leave a program behind, which makes its outputs anew.
         try:
             with holding_signals():
-                self.process = subprocess.Popen(self.words, stdin=subprocess.PIPE, stdout=subprocess.PIPE)
+                self.process = subprocess.Popen(self.words, stdin=subprocess.PIPE, stdout=subprocess.PIPE, pass_fds=self.kept)
                 assert self.process.stdin and self.process.stdout  # both are pipes
                 self.lines, self.said = self.process.stdin, self.process.stdout
         except BaseException:
@@ -265,11 +287,12 @@ class Run:
     def serve(self, lines: Sequence[Line], strict: bool) -> Iterator[Answer]:
         """The answer to each line, as it comes. In a strict run no line is sent before the answer to the one before it was taken."""
         self.total = self.expected(lines)
-        one_by_one = strict or self.history is not None
+        one_by_one = strict or self.history is not None or bool(self.staged.relays)
         batch: list[Line] = []
         for line in lines:
             size = sum(4 * len(it.text) + 1 for it in batch) + 4 * len(line.text)
-            if batch and (one_by_one or line.feeds_all or len(batch) == LINES_AHEAD or size > BYTES_AHEAD):
+            # A creation ends its batch: where it has no room, the maps behind it are asked for.
+            if batch and (one_by_one or line.feeds_all or len(batch) == LINES_AHEAD or size > BYTES_AHEAD or batch[-1].words[:1] == ("create",)):
                 yield from self.several(batch)
                 batch = []
             if line.feeds_all:
@@ -299,8 +322,23 @@ class Run:
 
     def several(self, batch: Sequence[Line]) -> list[Answer]:
         """The answers to lines that are sent as they are."""
+        for line in batch if self.staged.relays else ():
+            for channel in self.channels_of(line):
+                self.put_ahead(channel, int(line.words[2]))
         replies = self.session.ask([line.text for line in batch]) if batch else []
         return [self.answered(line, reply) for line, reply in zip(batch, replies)]
+
+    def put_ahead(self, channel: int, count: int) -> int | None:
+        """Puts the samples of a feed into the pipe of a channel that reads a stream; how many are there, None where it reads none. Where there
+        are fewer, the program sees the end of the stream, once it has surely opened its files."""
+        relay = self.staged.relays.get(channel)
+        if relay is None or not 1 <= count <= LONGEST_FEED:
+            return None
+        there = relay.ahead(count)
+        if there < count:
+            self.session.ask(["stat 0"])
+            relay.end()
+        return there
 
     def answered(self, line: Line, reply: str) -> Answer:
         """Takes note of a reply, and says what a refused line needs."""
@@ -310,25 +348,34 @@ class Run:
 
     def told(self, line: Line, words: tuple[str, ...], reply: str) -> Answer:
         """The answer to a line, with what is odd about it."""
-        why = hint(words, reply, self.circuit) if reply.startswith("no ") else ""
+        why = self.room_needed(words) if reply == "no 7 room" else ""
+        why = why or (hint(words, reply, self.circuit) if reply.startswith("no ") else "")
         self.circuit.follow(words, reply, f"line {line.number}")
         for channel in self.channels_of(line):
             ports = self.staged.settings
             for note in notes_on_channel(self.circuit, channel, bool(ports.in8 >> channel & 1), bool(ports.out8 >> channel & 1)):
                 self.noted.setdefault(note)
         if self.history is not None:
+            self.history.said.append(Said(line.number, line.text.strip(), reply, why))
             self.look(line, self.history)
         return Answer(line, reply, why)
 
+    def room_needed(self, words: tuple[str, ...]) -> str:
+        """What a creation lacks that has just been refused for want of room, by the maps that it has left as they were."""
+        maps = [parse_map(reply, self.staged.settings.size_of(space)) for space, reply in zip(SPACES, self.session.ask([f"map {space}" for space in SPACES]))]
+        return room_needed(self.circuit.instances, dict(zip(SPACES, maps)), Instance(words[2], int(words[3]), tuple(int(it) for it in words[4:])), int(words[1]))
+
     def took(self, channel: int, count: int, reply: str) -> None:
         """Counts what a feed has taken from its input: all that it asked for, or what was left where it was short."""
-        left = self.left[channel]
+        left, relay = self.left[channel], self.staged.relays.get(channel)
         if reply.startswith("ok"):
             used = count
         elif reply.endswith(" short"):
-            used = left or 0
+            used = relay.held // relay.width if relay else left or 0
         else:
             return
+        if relay:
+            relay.took(used)
         self.fed += used
         self.left[channel] = None if left is None else max(0, left - used)
         if self.watch:
@@ -341,17 +388,19 @@ class Run:
             number = line.words[1]
             return self.told(line, ("feed", number, "1"), self.session.ask([f"feed {number} 1"])[0])
         for channel in channels:
-            if self.left[channel] is None:
-                raise ScriptError(line.file, line.number, line.text, f"{self.staged.pairs[channel].source} is no regular file, and has no length: feed it by `feed {channel} N`")
+            if self.left[channel] is None and channel not in self.staged.relays:
+                raise ScriptError(line.file, line.number, line.text, f"{self.staged.pairs[channel].source} is a device, and has no length: feed it by `feed {channel} N`")
         written, feeds = 0, self.feeds(channels, line.block)
-        while batch := list(itertools.islice(feeds, LINES_AHEAD)):
+        # What a stream has is only known when its turn comes.
+        ahead = 1 if any(channel in self.staged.relays for channel in channels) else LINES_AHEAD
+        while batch := list(itertools.islice(feeds, ahead)):
             replies = self.session.ask([f"feed {channel} {count}" for channel, count in batch])
             for (channel, count), reply in zip(batch, replies):
                 self.took(channel, count, reply)
             for (channel, count), reply in zip(batch, replies):
                 if reply.startswith("no "):
                     return self.told(line, ("feed", str(channel), str(count)), reply)
-                written += int(reply.split()[1])
+                written += written_by(reply)
         for channel in channels:
             self.circuit.follow(("feed", str(channel), "1"), "ok", "")
         return self.told(line, ("map", "daram"), f"ok {written}")
@@ -359,11 +408,19 @@ class Run:
     def feeds(self, channels: Sequence[int], block: int) -> Iterator[tuple[int, int]]:
         """The feeds to the end of the channels' inputs, in turn. It has its own count: replies come later than the lines."""
         left = {channel: self.left[channel] or 0 for channel in channels}
-        while any(left.values()):
-            for channel, count in left.items():
+        streams = {channel: self.staged.relays[channel] for channel in channels if channel in self.staged.relays}
+        while streams or any(left.values()):
+            for channel in channels:
+                if channel in streams:
+                    count = min(block, streams[channel].ahead(block))
+                    if not count:
+                        del streams[channel]
+                        continue
+                else:
+                    count = min(block, left[channel])
+                    left[channel] -= count
                 if count:
-                    left[channel] = max(0, count - block)
-                    yield channel, min(block, count)
+                    yield channel, count
 
     def look(self, line: Line, history: History) -> None:
         """Asks where all blocks stand and who is active. Neither command changes anything."""
@@ -388,22 +445,26 @@ def run(
 ) -> Result:
     """Runs a script, a file or parsed lines, over pairs of files, 1 to 16.
 
-    An input or output that ends in `.wav` is a WAV file of one channel of 16 bits; others have words of 16 bits, or bytes by `settings`. Each
-    output is whole or stays as it was: it takes its place when the run has ended with status 0 or 1. `strict` stops at the first
+    The name of a file says its form: `.wav`, `.flac`, `.au` and `.aiff` are files of sound, `call.wav:1` is the second channel of one, `.ul` and `.al` are
+    codes of G.711, which are decoded and encoded; others have words of 16 bits, or bytes by `settings`. `/dev/stdin`, named pipes and sockets are
+    streams. Each output is whole or stays as it was: it takes its place when the run has ended with status 0 or 1. `strict` stops at the first
     refused line, and no output is changed then. `rate` is the samples a second of inputs that are no WAV files, in Hz.
 
     `tell` is called with each answer as it comes, `watch` with the samples fed and about how many there will be. With `history` the maps of all
     spaces and the active member of each group are asked for behind each line.
 
-    Raises CantRead, CantWrite, SameFile, WrongWave, ScriptError and ProgramMissing before anything runs, and ProgramFailed where the program
-    ends before the script does. No output was changed then.
+    Raises CantRead, CantWrite, SameFile, WrongWave, ScriptError and ProgramMissing first, and ProgramFailed if the program ends early. No output is changed then.
     """
+    if not 1 <= rate <= HIGHEST_RATE:
+        raise OutOfRange(f"a rate is 1 to {HIGHEST_RATE:,} samples a second, and {rate:g} is asked for")
     path = Path(script) if isinstance(script, (str, os.PathLike)) else None
+    look_at_descriptors()
     look_at_files(path, pairs)
     lines = list(script) if not isinstance(script, (str, os.PathLike)) else read_script(script)
-    words = [*find_program(program), *settings.arguments(), "/dev/stdin"]
+    name = "gateway_console" if names_gateway_kinds(lines) else "dsp_console"
+    words = [*find_program(program, name), *settings.arguments(), "/dev/stdin"]
     result = Result(history=History({space: settings.size_of(space) for space in SPACES}) if history else None)
-    with Staged(pairs, settings) as staged, Session([*words, *staged.names()]) as session:
+    with Staged(pairs, settings) as staged, Session([*words, *staged.names()], staged.kept) as session:
         going = Run(session, staged, watch, result.history)
         serve(going, lines, strict, tell, result)
         finish(result, going, rate)
@@ -431,6 +492,8 @@ def finish(result: Result, going: Run, rate: float) -> None:
     result.unfed = list(going.left)
     for channel, pair in enumerate(going.staged.pairs):
         own = going.staged.rates[channel] or rate
+        if own != rate:
+            going.noted.setdefault(f"{pair.source} has {own:g} samples a second: words that were designed for {rate:g} have other frequencies there; --rate {own:g} says that they are for it")
         divisors = going.circuit.divided.get(channel) or {going.circuit.divides_by(channel)}
         result.rates.append(own / min(divisors))
         if len(divisors) > 1:

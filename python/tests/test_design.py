@@ -138,10 +138,71 @@ class Tones(Case):
             self.assertLess(abs(gave[0] - one.level(32700)), 3 + 0.1 * one.level(32700))
         self.assertEqual(made.lines()[-1], "chain 2 2")
 
+    def test_one_shift_for_the_tones_of_a_call(self) -> None:
+        """So tones of one peak have one level, within a fifth, whatever their frequency."""
+        made = design.tones([697, 770, 852, 941, 1209, 1336, 1477, 1633], 102)
+        self.assertEqual(len({one.shift for one in made.detectors}), 1)
+        levels = [one.level(20000) for one in made.detectors]
+        self.assertLess(max(levels), 1.2 * min(levels))
+        self.assertNotIn("shifts differ", " ".join(made.warnings()))
+        self.assertIn("shifts differ", " ".join(design.Tones((*design.tones([697], 102).detectors, *design.tones([1633], 102).detectors)).warnings()))
+
     def test_warnings(self) -> None:
         self.assertIn("saturates", design.tones([1633], 102, 6, rate=4000).warnings()[0])
         self.assertIn("the nearest k is that of", " ".join(design.tones([7], 1024).warnings()))
         self.assertIn("has level 0", " ".join(design.tones([1000], 50, 12).warnings()))
+
+
+class Own(Case):
+    """Designs of the user's own, in Python and by the command."""
+
+    def test_sections(self) -> None:
+        sos = signal.ellip(6, 0.5, 40, [500, 2000], "bandpass", fs=8000, output="sos")
+        made = design.biquads(sos)
+        beside = design.decibels(made.response([600, 1000, 1900])) - design.decibels(made.designed_response([600, 1000, 1900]))
+        self.assertLess(np.ptp(beside), 0.3)
+        np.save(self.room / "sos.npy", sos)
+        np.savetxt(self.room / "sos.txt", sos)
+        np.savetxt(self.room / "sos.csv", sos, delimiter=",", header="b0 b1 b2 a0 a1 a2")
+        for name in ("sos.npy", "sos.txt", "sos.csv"):
+            done = self.command("dsp_design", "sos", name)
+            self.assertEqual((done.stdout.splitlines(), done.returncode), (made.lines(), 0), done.stderr)
+
+    def test_taps(self) -> None:
+        values = signal.remez(31, [0, 1000, 1500, 4000], [1, 0], fs=8000)
+        made = design.taps(values)
+        np.testing.assert_allclose(made.response([200, 3000]), made.designed_response([200, 3000]) * (np.abs(made.response([0])) / np.abs(made.designed_response([0]))), atol=0.002)
+        (gave,), _ = process("\n".join([*made.lines(), "feed 0 all"]), noise(500, 8000))
+        exact = signal.lfilter(np.array(made.words) / 32768, 1, noise(500, 8000).astype(float))
+        self.assertLess(np.abs(gave - exact).max(), 2)
+        np.savetxt(self.room / "column.txt", values)
+        np.savetxt(self.room / "row.txt", values[None])
+        np.save(self.room / "taps.npy", values)
+        for name in ("column.txt", "row.txt", "taps.npy"):
+            self.assertEqual(self.command("dsp_design", "taps", name).stdout.splitlines(), made.lines(), name)
+        self.assertEqual(self.command("dsp_design", "taps", "-", given="0.5\n0.25 # the past\n").stdout, "create 0 fir 0 16384 8192\nchain 0 0\n")
+
+    def test_gains_meters_and_digits(self) -> None:
+        for words, lines in (
+            (["gain", "6"], design.gain(6).lines()), (["gain", "-6", "--first", "3"], ["create 3 gain 0 2053", "chain 0 3"]), (["level"], design.level().lines()),
+            (["level", "--frame", "80", "--group", "2", "--channel", "1"], design.level(80).lines(0, 2, 1)), (["dtmf"], design.dtmf().lines()), (["dtmf", "--set", "b"], design.dtmf("b").lines()),
+        ):
+            done = self.command("dsp_design", *words)
+            self.assertEqual((done.stdout.splitlines(), done.returncode), (lines, 0), done.stderr)
+            self.assertTrue(done.stderr)
+
+    def test_files_that_hold_something_else(self) -> None:
+        self.write("text", "no numbers\n")
+        self.write("five", "1 2 3 4 5\n")
+        self.write("uneven", "1 2\n3\n")
+        self.write("empty", "")
+        self.write("odd.npy", b"no array")
+        np.save(self.room / "object.npy", np.array([{}]), allow_pickle=True)
+        for what in ("sos", "taps"):
+            for name in ("text", "uneven", "empty", "odd.npy", "object.npy", "none", ".") + (("five",) if what == "sos" else ()):
+                done = self.command("dsp_design", what, name)
+                with self.subTest(what=what, name=name):
+                    self.assertEqual((done.stdout, done.returncode, len(done.stderr.splitlines())), ("", 3, 1), done.stderr)
 
 
 class Decimators(Case):

@@ -26,9 +26,9 @@ TYPES: dict[str, type] = {
     "rokdaum_space": c_int, "rokdaum_law": c_int, "rokdaum_code": c_int, "rokdaum": library.Handle, "rokdaum_options": library.Options,
     "rokdaum_block": library.BlockRecord, "char": ctypes.c_char,
 }
-# What the package has no use for: it feeds by feed_all, asks by `line`, and lets the library allocate. The proved entry points stand in the header for
-# the inline feed alone.
-NOT_CALLED = {"open_with", "feed", "proved_feed", "proved_feed_sample", "ready", "version", "error_text"}
+# What the package has no use for: it feeds by feed_all, asks by `line`, lets the library allocate, and makes digits of codes where there is no library
+# too. The proved entry points stand in the header for the inline feed alone.
+NOT_CALLED = {"open_with", "feed", "proved_feed", "proved_feed_sample", "ready", "version", "error_text", "dialled"}
 
 
 def type_of(text: str) -> type:
@@ -76,6 +76,9 @@ class Header(unittest.TestCase):
             found = re.search(rf"ROKDAUM_DTMF_{name.upper()} {{([\d, ]+)}}", HEADER)
             assert found is not None
             self.assertEqual(tuple(map(int, found[1].split(","))), words)
+            rule, receiver = re.search(rf"ROKDAUM_DIGITS_{name.upper()} {{(\d+), (\d+), ", HEADER), design.dtmf(name)
+            assert rule is not None
+            self.assertEqual((int(rule[1]), int(rule[2])), (receiver.frames_on, receiver.frames_off))
         self.assertIn(f'ROKDAUM_DTMF_KEYS "{design.KEYS}"', HEADER)
 
     def test_codes(self) -> None:

@@ -9,6 +9,7 @@ SEED seeds the random scripts.
 from __future__ import annotations
 
 import gc
+import io
 import os
 import subprocess
 import sys
@@ -25,7 +26,8 @@ import numpy as np
 import rokdaum
 from calls import random_differences
 from rokdaum import Host, design, errors, g711, library, maps, operators
-from rokdaum.host import options_of
+from rokdaum.host import Line, options_of
+from rokdaum.errors import FloatsRefused, Missing, OutOfRange
 from rokdaum_model import companding
 from rokdaum_model import operators as model
 from rokdaum_model.gateway import GATEWAY
@@ -33,6 +35,8 @@ from rokdaum_model.sets import GATEWAY_SET
 
 EXAMPLES = REPOSITORY / "examples" / "python"
 SEED = os.environ.get("SEED", "1")
+# Seconds after which a thread that says nothing has failed.
+PATIENCE = 60
 # What memory of the process may grow by, in bytes, where nothing is leaked: less than one host takes, or a thousandth of what would leak.
 GROWTH = 400_000
 
@@ -52,6 +56,7 @@ def shown(host: Host) -> list:
 def create_and_delete(times: int) -> int:
     """Makes instances of each kind, refused ones and chains so many times, and deletes them; how many bytes the process grew by."""
     params = {"fir": [16384, 1], "decim": [2, 16384], "biquad": [8192, 0, 0, 0, 0], "tone": [27980, 102, 8], "g711": [1, 1], "gain": [4096], "level": [160, 4], "dtmf": design.dtmf()}
+    params |= {"echo": [4, 8192, 16384, 240], "adpcm": [32, 0], "signal": [0, 0, 0, 0, 2, 1, 1]}
     with Host(daram=2048, saram=64) as host:
         for at in range(times):
             if at == times // 10:
@@ -125,7 +130,7 @@ class Refusals(LibraryCase):
             (errors.Command, "as many coefficients as it has", lambda: fir.set([1])),
             (errors.BadLength, "too many", lambda: host.create("fir", 0, [1] * 73)),
             (errors.BadLength, "1 to 8 members", host.chain),
-            (errors.BadKind, "fir, decim, biquad, tone, g711, gain, level, dtmf, and not iir", lambda: host.create("iir", 0, [1])),
+            (errors.BadKind, "fir, decim, biquad, tone, g711, gain, level, dtmf, echo, adpcm, signal, and not iir", lambda: host.create("iir", 0, [1])),
             (errors.BadSpace, "daram, saram, external, and not rom", lambda: host.map("rom")),
             (errors.BadSpace, "not rom", lambda: host.step("rom")),
             (errors.BadSpace, "not rom", lambda: host.compact("rom")),
@@ -276,6 +281,68 @@ class Arrays(LibraryCase):
             second.feed([1])
             self.assertEqual(host.stat(3), (1, 2))
             self.assertEqual([host.release(3), host.release(3)], [True, False])
+
+
+class Columns(LibraryCase):
+    """Arrays of two dimensions, and streams."""
+
+    def test_a_column_for_each_line(self) -> None:
+        given = np.stack([noise(3000), noise(3000)[::-1]], axis=1)
+        with Host() as host, Host() as other:
+            for it in (host, other):
+                for words in ([16384], [8192, 8192]):
+                    it.chain(it.create("fir", params=words))
+            out = host.feed(given)
+            self.assertEqual((out.shape, out.dtype), ((3000, 2), np.dtype(np.int16)))
+            for at, line in enumerate(other.lines):
+                np.testing.assert_array_equal(out[:, at], line.feed(given[:, at]))
+            second, first = host.lines[1], host.lines[0]
+            turned = host.feed(given, second, first)
+            np.testing.assert_array_equal(turned[:, 0], other.lines[1].feed(given[:, 0]))
+
+    def test_what_has_no_columns(self) -> None:
+        """Refused before anything is fed."""
+        with Host() as host:
+            host.chain(host.create("fir", params=[16384, 16384]))
+            slow = host.chain(host.create("decim", params=[2, 32767]))
+            for wrong in (np.zeros((5, 2), np.int16), np.zeros((5, 3), np.int16), np.zeros(5, np.int16), np.zeros((2, 5), np.int16)):
+                with self.assertRaises(OutOfRange):
+                    host.feed(wrong)
+            with self.assertRaises(FloatsRefused):
+                host.feed(np.full((5, 1), 0.5), host.lines[0])
+            with self.assertRaises(OutOfRange):
+                host.feed(np.array([[100], [40000]]), host.lines[0])
+            self.assertEqual(host.feed(np.array([[100], [200]]), host.lines[0]).tolist(), [[50], [150]])
+            slow.unchain()
+            with self.assertRaises(Missing):
+                host.feed(np.zeros((5, 1), np.int16), slow)
+
+    def test_streams(self) -> None:
+        given = noise(5001)
+        with Host() as host:
+            half = host.create("fir", params=[16384, 3])
+            line = host.chain(half)
+            want = line.feed(given)
+            for source, block in ((io.BytesIO(given.astype("<i2").tobytes() + b"x"), 160), ([given[:7], [], given[7:]], 1), ((it for it in np.array_split(given, 9)), 1024)):
+                half.reset()
+                np.testing.assert_array_equal(np.concatenate(list(line.stream(source, block))), want)
+            half.reset()
+            made = line.stream(io.BytesIO(given.astype("<i2").tobytes()), 100)
+            np.testing.assert_array_equal(next(made), want[:100])
+            with self.assertRaises(OutOfRange):
+                next(line.stream([], 0))
+
+    def test_a_pipe_block_by_block(self) -> None:
+        reader, writer = os.pipe()
+        with Host() as host, open(reader, "rb", buffering=0) as source:
+            made = host.chain(host.create("fir", params=[16384])).stream(source, 80)
+            for _ in range(3):
+                os.write(writer, np.full(50, 8, "<i2").tobytes())
+                os.write(writer, np.full(30, 8, "<i2").tobytes())
+                self.assertEqual(next(made).tolist(), [4] * 80)
+            os.write(writer, np.full(5, 8, "<i2").tobytes())
+            os.close(writer)
+            self.assertEqual([it.tolist() for it in made], [[4] * 5])
 
 
 class Kinds(LibraryCase):
@@ -431,6 +498,22 @@ class Memory(LibraryCase):
         self.assertLess(resident() - before, 4_000_000)
 
 
+class Held:
+    """The library, whose feeds go on once they may."""
+
+    def __init__(self, library: object) -> None:
+        self._library, self.begun, self.may_go_on = library, threading.Event(), threading.Event()
+
+    def __getattr__(self, name: str) -> object:
+        return getattr(self._library, name)
+
+    def rokdaum_feed_all(self, *arguments: object) -> object:
+        """Begins, waits, and feeds."""
+        self.begun.set()
+        self.may_go_on.wait(PATIENCE)
+        return getattr(self._library, "rokdaum_feed_all")(*arguments)
+
+
 class Threads(LibraryCase):
     def test_a_host_in_each(self) -> None:
         """Eight threads with a host each give what they give one after the other."""
@@ -455,24 +538,44 @@ class Threads(LibraryCase):
             out = [line.feed(given[:9999]), other.feed(given), line.feed(given[9999:])]
             return [int(np.abs(it.astype(int)).sum()) for it in out] + [host.stat(0).activations]
 
-    def test_of_another(self) -> None:
-        said = []
+    def test_handed_on(self) -> None:
+        """A host that eight threads feed by turns, under a lock, and another one closes."""
+        host, lock, found = Host(poison=21845), threading.Lock(), []
+        lines = [host.chain(host.create("fir", at // 2, [16384, 16384])) for at in range(8)]
 
-        def run() -> None:
-            for call in (lambda: host.map("daram"), lambda: line.feed([1]), one.get, host.close):
-                try:
-                    call()
-                except errors.WrongThread as why:
-                    said.append(str(why))
+        def feed(line: Line) -> None:
+            for _ in range(100):
+                with lock:
+                    found.append(line.feed([2, 4, 0]).tolist())
+                    host.compact("saram")
 
+        for work in ([lambda line=line: feed(line) for line in lines], [host.close]):
+            threads = [threading.Thread(target=one) for one in work]
+            for one in threads:
+                one.start()
+            for one in threads:
+                one.join()
+        self.assertEqual(found, [[1, 3, 2]] * 800)
+        self.assertRaises(errors.NotOpen, host.map, "daram")
+
+    def test_at_once(self) -> None:
+        """While one thread feeds, each call of another gets WrongThread, and the feed goes on."""
+        said, heard = [], []
         with Host() as host:
             one = host.create("fir", 0, [16384])
-            line = host.chain(one)
-            thread = threading.Thread(target=run)
-            thread.start()
-            thread.join()
-            self.assertEqual(line.feed([100]).tolist(), [50])
-        self.assertEqual(said, ["a host is used in the thread that opened it: open one in each thread"] * 4)
+            line, held = host.chain(one), Held(host._library)
+            with mock.patch.object(host, "_library", held):
+                thread = threading.Thread(target=lambda: heard.append(line.feed([200]).tolist()))
+                thread.start()
+                self.assertTrue(held.begun.wait(PATIENCE))
+                for call in (lambda: host.map("daram"), lambda: line.feed([1]), one.get, host.close):
+                    with self.assertRaises(errors.WrongThread) as raised:
+                        call()
+                    said.append(str(raised.exception))
+                held.may_go_on.set()
+                thread.join()
+            self.assertEqual((heard, line.feed([100]).tolist()), ([[100]], [50]))
+        self.assertEqual(said, ["another call of this host is under way: threads that share a host order their calls, by a lock for instance"] * 4)
 
 
 class Finding(LibraryCase):

@@ -171,13 +171,66 @@ class Design(Case):
         self.assertEqual(self.command("dsp_design", "band", "300", "3400", "--plot", "r.svg").returncode, 0)
         self.assertIn("<svg", (self.room / "r.svg").read_text())
         axes = plot.response(design.low(1000))
-        self.assertEqual([line.get_label() for line in axes.get_lines()], ["designed", "words"])
+        self.assertEqual([line.get_label() for line in axes.get_lines()], ["designed", "rounded words"])
+        upper = plot.design(design.band(300, 3400))
+        off = np.asarray(upper.figure.axes[1].get_lines()[0].get_ydata())
+        self.assertLess(np.nanmax(np.abs(off[256:])), 0.1)
         axes = plot.levels([[1, 2, 3], [3, 2, 1]], [697, 770], 102)
         np.testing.assert_allclose(axes.get_lines()[0].get_xdata(), np.array([1, 2, 3]) * 102 / 8000)
         with self.assertRaises(OutOfRange):
             plot.levels([[1]], [697, 770], 102)
         with self.assertRaises(OutOfRange):
             plot.memory(maps.History(), "daram")
+
+    def test_a_line_has_its_number_below_it(self) -> None:
+        """All numbers of lines are whole, and stand below the middle of the line's column."""
+        for last, named in ((3, ["1", "2", "3"]), (2000, [str(it) for it in range(100, 2001, 100)])):
+            history = maps.History(last=last)
+            history.add(1, "create 0 fir 0 1", {"daram": "ok g0@0+1024"}, {})
+            history.last = last
+            axes = plot.memory(history, "daram")
+            self.assertEqual([it.get_text() for it in axes.get_xticklabels()], named)
+            self.assertEqual(axes.get_xticks()[0], int(named[0]) + 0.5)
+
+    def test_spectrograms(self) -> None:
+        """The loudest row is that of the tone, at its level; both sounds have one scale."""
+        seconds = np.arange(8000) / 8000
+        heard = (16384 * np.sin(2 * np.pi * 1000 * seconds)).astype(np.int16)
+        axes = plot.spectrogram(heard, 8000)
+        shown = np.asarray(axes.get_images()[0].get_array())
+        self.assertEqual(shown.shape[0], 129)
+        self.assertAlmostEqual(shown[32].mean(), 20 * np.log10(0.5), delta=0.2)
+        self.assertTrue((shown.argmax(axis=0) == 32).all())
+        first = plot.spectrograms([[("in", heard, 8000), ("out", heard[::4], 2000)]])
+        self.assertEqual(first.get_ylim(), (0, 4000))
+        self.assertEqual(len(first.figure.axes), 3)
+        for few in ([], [[]], [[("in", heard[:3], 8000)]]):
+            with self.assertRaises(OutOfRange):
+                plot.spectrograms(few)
+
+    def test_latency(self) -> None:
+        axes = plot.latency([0.4, 0.5, 0.5, 30], 20)
+        self.assertEqual([it.get_text() for it in axes.get_legend().get_texts()], ["median: 0.50 ms", "99 of 100: 29.11 ms", "longest: 30.00 ms", "a block lasts 20 ms"])
+        for none in ([], [0.0]):
+            with self.assertRaises(OutOfRange):
+                plot.latency(none, 20)
+
+    def test_spectrogram_of_a_run(self) -> None:
+        """What went in beside what came out; not of codes, not over a file of the run, and not of a run that was stopped."""
+        self.write("in.raw", noise(3000))
+        self.write("s", "create 0 fir 0 16384\nchain 0 0\nfeed 0 all\n")
+        done = self.command("dsp_run", "--spectrogram", "p.png", "s", "in.raw", "out.raw")
+        self.assertEqual((done.returncode, done.stdout, done.stderr), (0, "ok\nok\nok 3000\n", ""))
+        self.assertTrue((self.room / "p.png").read_bytes().startswith(b"\x89PNG"))
+        for words, status in ((("--spectrogram", "in.raw"), 2), (("--spectrogram", "none/p.png"), 4), (("--spectrogram", "p.none"), 2), (("--spectrogram", "q.png", "--in8", "1"), 2)):
+            done = self.command("dsp_run", *words, "s", "in.raw", "other.raw")
+            with self.subTest(words=words):
+                self.assertEqual(done.returncode, status, done.stderr)
+                self.assertNotIn("Traceback", done.stderr)
+        self.write("s", "fly\n")
+        self.assertEqual(self.command("dsp_run", "--strict", "--spectrogram", "q.png", "s", "in.raw", "out.raw").returncode, 1)
+        self.assertFalse((self.room / "q.png").exists())
+        self.assertEqual(self.left_over(), [])
 
     def test_another_python(self) -> None:
         """The python3 on PATH has the packages or hands on to Debian's. One that can't says which package is missing."""

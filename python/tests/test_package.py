@@ -86,7 +86,7 @@ class Documents(Case):
             page = REPOSITORY / "docs" / "man" / f"{name}.1"
             text = page.read_text().replace("\\-", "-")
             shown = self.command(name, "--help").stdout
-            helps = [shown] + ([self.command(name, what, "--help").stdout for what in ("low", "notch", "fir", "decim", "tone")] if name == "dsp_design" else [])
+            helps = [shown] + ([self.command(name, what, "--help").stdout for what in ("low", "notch", "fir", "decim", "sos", "taps", "tone", "gain", "level", "dtmf")] if name == "dsp_design" else [])
             for option in set(re.findall(r"--[a-z0-9]+", " ".join(helps))) - {"--help"}:
                 with self.subTest(page=name, option=option):
                     self.assertIn(option, text)

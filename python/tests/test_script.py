@@ -13,17 +13,18 @@ import sys
 import time
 import unittest
 import wave
+from unittest import mock
 
 from case import PROGRAM, PYTHON, REPOSITORY, Case, noise, np, tone
 
-from rokdaum import samples
+from rokdaum import samples, sounds
 from rokdaum.commands.run import Progress
 from rokdaum.errors import CantRead, CantWrite, FloatsRefused, OutOfRange, ProgramFailed, ProgramMissing, RokdaumError, SameFile, ScriptError, WrongWave
 from rokdaum.explain import FORMS
 from rokdaum.ports import Pair, Settings, pairs_of
 from rokdaum.script import parse, process, read_script, run
 
-PHONE = "create 0 biquad 0 11969 0 -11969 -2999 -7553\ncreate 1 biquad 1 12335 24670 12335 23864 10482\nchain 0 0 1\n"
+PHONE = "create 0 biquad 0 8192 16384 8192 23864 10482\ncreate 1 biquad 1 11717 -23433 11717 -28604 13055\ncreate 2 biquad 2 22241 0 -22241 -2999 -7553\nchain 0 0 1 2\n"
 HALF = "create 0 fir 0 16384\nchain 0 0\n"
 
 
@@ -51,8 +52,7 @@ class Examples(Case):
         self.write("in.raw", noise(5000))
         recipe = REPOSITORY / "examples" / "cookbook" / "telephone_band"
         subprocess.run([sys.executable, "-B", str(recipe), "in.raw", "want.raw"], cwd=self.room, check=True)
-        text = PHONE.replace("chain 0 0 1\n", "create 2 biquad 2 14459 -28918 14459 -28604 13055\nchain 0 0 1 2\n")
-        self.run_text(text + "feed 0 all\n", "in.raw", "out.raw")
+        self.run_text(PHONE + "feed 0 all\n", "in.raw", "out.raw")
         self.assertEqual((self.room / "out.raw").read_bytes(), (self.room / "want.raw").read_bytes())
 
     def test_companding_of_the_cookbook(self) -> None:
@@ -178,7 +178,17 @@ class Refusals(Case):
         self.write("in", noise(3))
         last = self.run_text("create 0 fir 0 1", "in", "out", settings=Settings(daram=4)).answers[-1]
         self.assertEqual(last.reply, "no 7 room")
-        self.assertIn("--daram", last.why)
+        self.assertEqual(last.why, "It wants 1,024 words of daram for the scratch memory of its group, at a multiple of 16, and no gap has them: the largest has 4. A larger --daram gives more, up to 65536.")
+
+    def test_room_is_that_of_the_moment(self) -> None:
+        """Lines behind a refused creation, which are sent ahead, don't change what it lacked."""
+        self.write("in", noise(3))
+        text = "".join(f"create {i} fir {i} 1\n" for i in range(3)) + "delete 1\ncreate 3 fir 3" + " 1" * 6 + "\ndelete 0\ndelete 2\ncreate 4 fir 4 1\n"
+        answers = self.run_text(text, "in", "out", settings=Settings(daram=3072)).answers
+        self.assertEqual([it.reply for it in answers], ["ok"] * 4 + ["no 7 room"] + ["ok"] * 3)
+        self.assertEqual(answers[4].why, "It wants 1,032 words of daram for the scratch memory of its group, at a multiple of 16, and no gap has them: the largest has 1,024. A larger --daram gives more, up to 65536.")
+        joined = self.run_text(text.replace("delete 1\n", "delete 0\ndelete 2\n").replace("delete 0\ndelete 2\ncreate 4", "create 4"), "in", "out", settings=Settings(daram=3072)).answers
+        self.assertIn("Its gaps have 2,048 words in all: `compact daram` joins them.", joined[5].why)
 
     def test_file_line_text_reply(self) -> None:
         self.write("in", noise(3000))
@@ -255,6 +265,8 @@ class Files(Case):
             pairs_of(["a"])
         with self.assertRaises(CantRead):
             read_script(self.room / "none")
+        with mock.patch("os.path.isdir", return_value=False), self.assertRaisesRegex(CantRead, "^no /proc: "):
+            self.run_text("stat 0", "in", "out")
         self.assertTrue(issubclass(SameFile, RokdaumError))
 
     def test_devices_and_pipes_are_written_as_they_are(self) -> None:
@@ -330,15 +342,217 @@ class Waves(Case):
         self.wave("in.wav")
         self.write("none.wav", b"RIFF")
         for names, settings, said in (
-            (("stereo.wav", "out"), Settings(), "2 channels of 16 bits.*sox stereo.wav|2 channels of 16 bits.*sox"),
-            (("loud.wav", "out"), Settings(), "24 bits"),
-            (("none.wav", "out"), Settings(), "no WAV file"),
+            (("stereo.wav", "out"), Settings(), "2 channels, and a pair takes one: .*stereo.wav:0 is the first .*:1 the second"),
+            (("stereo.wav:2", "out"), Settings(), "2 channels, and 2 is asked for"),
+            (("in.wav:1", "out"), Settings(), "1 channel, and 1 is asked for"),
+            (("loud.wav", "out"), Settings(), "PCM_24, which 16 bits don't hold"),
+            (("none.wav", "out"), Settings(), "no file of sound"),
             (("in.wav", "out"), Settings(in8=1), "says that channel 0 reads bytes"),
             (("in.wav", "out.wav"), Settings(out8=1), "no WAV file of PCM"),
         ):
             with self.subTest(said=said), self.assertRaisesRegex(WrongWave, said):
                 self.run_text(HALF, *names, settings=settings)
         self.assertEqual(self.left_over(), [])
+
+    def test_each_channel_of_a_stereo_file(self) -> None:
+        self.wave("stereo.wav", channels=2)
+        both = noise(2000).reshape(-1, 2)
+        for channel in (0, 1):
+            self.run_text(HALF + "feed 0 all", f"stereo.wav:{channel}", "out.raw")
+            self.write("one.raw", both[:, channel])
+            self.run_text(HALF + "feed 0 all", "one.raw", "want.raw")
+            np.testing.assert_array_equal(self.samples("out.raw"), self.samples("want.raw"))
+            np.testing.assert_array_equal(samples.read(self.room / f"stereo.wav:{channel}")[0], both[:, channel])
+        # A file whose own name ends so is that file.
+        (self.room / "stereo.wav").rename(self.room / "stereo.wav:1")
+        self.wave("stereo.wav")
+        with self.assertRaisesRegex(CantRead, "no such file"):
+            self.run_text(HALF, "stereo.txt:1", "out.raw")
+
+    def sox(self, *words: str) -> None:
+        """What sox makes in the test's folder, without dither."""
+        subprocess.run(["sox", "-D", *words], cwd=self.room, check=True, capture_output=True)
+
+    def test_forms_of_telephony(self) -> None:
+        """A-law, mu-law, the extensible form, AU, FLAC and AIFF give what sox makes of them."""
+        self.wave("in.wav", rate=8000)
+        for made in (("-e", "mu-law", "mu.wav"), ("-e", "a-law", "a.wav"), ("-e", "mu-law", "mu.au"), ("x.flac",), ("x.aiff",), ("-t", "ul", "x.ul"), ("-t", "al", "x.al"), ("-e", "unsigned", "-b", "8", "8.wav")):
+            self.sox("in.wav", *made)
+            name = made[-1]
+            self.sox(*(["-r", "8000", "-c", "1"] if name in ("x.ul", "x.al") else []), name, "-t", "raw", "-e", "signed", "-b", "16", "want.raw")
+            with self.subTest(name=name):
+                self.run_text("create 0 fir 0 32767\nchain 0 0\nfeed 0 all", "want.raw", "want.out")
+                result = self.run_text("create 0 fir 0 32767\nchain 0 0\nfeed 0 all", name, "out.raw")
+                self.assertEqual((self.room / "out.raw").read_bytes(), (self.room / "want.out").read_bytes())
+                self.assertEqual(result.unfed, [0])
+        for name in ("out.flac", "out.au", "out.aiff", "out.wav"):
+            self.run_text(HALF + "feed 0 all", "in.wav", name)
+            self.sox(name, "-t", "raw", "back.raw")
+            self.run_text(HALF + "feed 0 all", "in.wav", "want.raw")
+            with self.subTest(name=name):
+                self.assertEqual((self.room / "back.raw").read_bytes(), (self.room / "want.raw").read_bytes())
+
+    def test_laws_are_the_programs(self) -> None:
+        """Each sample's code and each code's sample are those of the proved coder and decoder."""
+        every = np.arange(-32768, 32768)
+        self.write("every", every)
+        self.write("codes", bytes(range(256)))
+        for number, law, ending in ((0, "a", "al"), (1, "mu", "ul")):
+            self.run_text(f"create 0 g711 0 {number} 0\nchain 0 0\nfeed 0 all", "every", "want", settings=Settings(out8=1))
+            self.assertEqual(sounds.encoded(law), np.roll(np.fromfile(self.room / "want", "u1"), 32768).tobytes())
+            self.run_text(f"create 0 g711 0 {number} 1\nchain 0 0\nfeed 0 all", "codes", "want", settings=Settings(in8=1))
+            self.assertEqual(b"".join(sounds.decoded(law)), (self.room / "want").read_bytes())
+            self.run_text(HALF + "feed 0 all", "every", f"out.{ending}")
+            self.run_text(f"create 0 fir 0 16384\ncreate 1 g711 0 {number} 0\nchain 0 0 1\nfeed 0 all", "every", f"codes.{ending}", settings=Settings(out8=1))
+            self.assertEqual((self.room / f"out.{ending}").read_bytes(), (self.room / f"codes.{ending}").read_bytes())
+            # With --in8 a file of codes is one of codes.
+            self.run_text(f"create 0 g711 0 {number} 1\nchain 0 0\nfeed 0 all", f"out.{ending}", "decoded", settings=Settings(in8=1))
+            np.testing.assert_array_equal(self.samples("decoded"), samples.read(self.room / f"out.{ending}")[0])
+
+    def test_a_rate_that_nobody_designed_for_is_noted(self) -> None:
+        self.wave("wide.wav", rate=16000)
+        result = self.run_text(HALF + "feed 0 all", "wide.wav", "out.raw")
+        self.assertIn("16000 samples a second: words that were designed for 8000 have other frequencies", " ".join(result.notes))
+        self.assertEqual(self.run_text(HALF + "feed 0 all", "wide.wav", "out.raw", rate=16000).notes, [])
+
+    def test_pcm_needs_python_alone(self) -> None:
+        """Other forms name the package, and change nothing."""
+        self.wave("stereo.wav", channels=2)
+        self.wave("in.wav", rate=8000)
+        self.sox("in.wav", "-e", "mu-law", "mu.wav")
+        self.write("s", HALF + "feed 0 all\n")
+        hide = "import sys; sys.modules['soundfile'] = None; sys.argv[0] = 'dsp_run'\nimport importlib.util as u; find = u.find_spec; u.find_spec = lambda name: None if name == 'soundfile' else find(name)\n"
+        for name, status in (("stereo.wav:1", 0), ("in.wav", 0), ("mu.wav", 2)):
+            code = hide + f"sys.path.insert(0, {str(PYTHON)!r})\nfrom rokdaum.commands.run import main\nsys.exit(main(['s', {name!r}, 'out-{status}.raw']))"
+            done = subprocess.run([sys.executable, "-B", "-c", code], cwd=self.room, capture_output=True, text=True, check=False)
+            with self.subTest(name=name):
+                self.assertEqual(done.returncode, status, done.stderr)
+                self.assertEqual("apt-get install python3-soundfile" in done.stderr, status == 2)
+        self.assertFalse((self.room / "out-2.raw").exists())
+
+
+class Streams(Case):
+    """The standard input and output, and named pipes."""
+
+    def piped(self, given: bytes, *words: str, stdout: int = subprocess.PIPE) -> tuple[bytes, str, int]:
+        """Runs `dsp_run` with octets at its standard input: what came out, what was said, and the status."""
+        done = subprocess.run([sys.executable, str(PYTHON / "bin" / "dsp_run"), *words], cwd=self.room, input=given, stdout=stdout, stderr=subprocess.PIPE, timeout=120, check=False)
+        return done.stdout or b"", done.stderr.decode(), done.returncode
+
+    def setUp(self) -> None:
+        super().setUp()
+        self.given = noise(5001)
+        self.write("in", self.given)
+        self.write("s", HALF + "feed 0 all\n")
+        self.run_text(HALF + "feed 0 all", "in", "want")
+        self.want = (self.room / "want").read_bytes()
+
+    def test_from_pipe_to_pipe(self) -> None:
+        octets = (self.room / "in").read_bytes()
+        self.assertEqual(self.piped(octets, "s", "-", "-"), (self.want, "ok\nok\nok 5001\n", 0))
+        out, said, status = self.piped(octets, "s", "-", "out")
+        self.assertEqual((out, said, status, (self.room / "out").read_bytes()), (b"ok\nok\nok 5001\n", "", 0, self.want))
+        self.assertEqual(self.piped((HALF + "feed 0 all\n").encode(), "-", "in", "-"), (self.want, "ok\nok\nok 5001\n", 0))
+        self.assertEqual(self.piped(octets, "s", "/dev/stdin", "/dev/stdout"), (self.want, "ok\nok\nok 5001\n", 0))
+
+    def test_to_a_file_at_its_end(self) -> None:
+        with open(self.room / "log", "ab") as log:
+            log.write(b"before")
+            log.flush()
+            self.assertEqual(self.piped(b"", "s", "in", "-", stdout=log.fileno())[1:], ("ok\nok\nok 5001\n", 0))
+        self.assertEqual((self.room / "log").read_bytes(), b"before" + self.want)
+
+    def test_sound_from_a_pipe(self) -> None:
+        for name in ("in.wav", "in.flac", "in.au"):
+            samples.write(self.room / name, self.given)
+            self.assertEqual(self.piped((self.room / name).read_bytes(), "s", "-", "-")[0], self.want, name)
+
+    def test_feeds_of_a_stream_are_those_of_a_file(self) -> None:
+        """The same replies and the same output, refused feeds and short ones among them, and empty and odd streams."""
+        texts = (
+            HALF + "feed 0 100\nfeed 0 0\nfeed 1 5\nfeed 0 all 160\nfeed 0 1\nfeed 0 1\n", "feed 0 50\n" + HALF + "feed 0 50\nfeed 0 1024\nfeed 0 1025\n" + "feed 0 1000\n" * 5 + "feed 0 all\n",
+            "feed 0 all\n", HALF + "feed 0 1\nunchain 0\nfeed 0 7\nchain 0 0\nfeed 0 7\nfeed 0 all 1\n" + "feed * all\n", "stat 0\n",
+        )
+        for count in (0, 1, 3, 159, 160, 1024, 5000):
+            octets = noise(count).astype("<i2").tobytes() + b"x" * (count % 2)
+            self.write("file", octets)
+            for text in texts:
+                self.write("t", text)
+                with self.subTest(count=count, text=text[:40]):
+                    wanted = self.command("dsp_run", "--quiet", "t", "file", "out")
+                    got = self.piped(octets, "--quiet", "t", "-", "got")
+                    self.assertEqual((got[0].decode(), got[2]), (wanted.stdout, wanted.returncode), got[1])
+                    self.assertEqual((self.room / "got").read_bytes(), (self.room / "out").read_bytes())
+
+    def test_bytes_from_a_pipe(self) -> None:
+        self.write("s", "create 0 g711 0 1 1\ncreate 1 g711 0 0 0\nchain 0 0 1\nfeed 0 all 100\n")
+        codes = bytes(range(256)) * 9
+        self.write("in.codes", codes)
+        self.assertEqual(self.command("dsp_run", "--in8=1", "--out8=1", "s", "in.codes", "want.al").returncode, 0)
+        self.assertEqual(self.piped(codes, "--in8=1", "--out8=1", "s", "-", "-")[0], (self.room / "want.al").read_bytes())
+
+    def test_block_by_block(self) -> None:
+        """What a block gives comes out before the next one is there."""
+        self.write("s", HALF + "feed 0 all 160\n")
+        with subprocess.Popen([sys.executable, str(PYTHON / "bin" / "dsp_run"), "s", "-", "-"], cwd=self.room, stdin=subprocess.PIPE, stdout=subprocess.PIPE, stderr=subprocess.PIPE) as running:
+            assert running.stdin and running.stdout
+            for _ in range(5):
+                running.stdin.write(np.full(160, 8, "<i2").tobytes())
+                running.stdin.flush()
+                self.assertEqual(running.stdout.read(320), np.full(160, 4, "<i2").tobytes())
+            running.stdin.close()
+            self.assertEqual((running.stdout.read(), running.wait(60)), (b"", 0))
+
+    def test_two_channels_in_turn(self) -> None:
+        os.mkfifo(self.room / "pipe")
+        self.write("s", "create 0 fir 0 16384\nchain 0 0\ncreate 1 fir 1 16384\nchain 1 1\nfeed * all 100\n")
+        running = subprocess.Popen([sys.executable, str(PYTHON / "bin" / "dsp_run"), "s", "pipe", "a", "in", "b"], cwd=self.room, stdin=subprocess.DEVNULL, stdout=subprocess.PIPE)
+        (self.room / "pipe").write_bytes((self.room / "in").read_bytes())
+        self.assertEqual(running.communicate(timeout=60)[0].splitlines()[-1], b"ok 10002")
+        self.assertEqual(((self.room / "a").read_bytes(), (self.room / "b").read_bytes()), (self.want, self.want))
+
+    def test_each_stream_has_one_use(self) -> None:
+        for words, said in (
+            (["-", "-", "out"], "SCRIPT or an IN"), (["s", "-", "a", "-", "b"], "one IN"), (["s", "in", "-", "in", "-"], "OUT of two channels"),
+            (["s", "-", "a", "/dev/stdin", "b"], "one IN"),
+        ):
+            out, told, status = self.piped(b"", *words)
+            with self.subTest(words=words):
+                self.assertEqual((out, status), (b"", 2), told)
+                self.assertIn(said, told)
+        self.assertEqual([path.name for path in self.room.iterdir() if path.name in ("a", "b", "out")], [])
+
+    def test_a_reader_that_has_enough(self) -> None:
+        done = subprocess.run(["bash", "-c", f"{sys.executable} {PYTHON}/bin/dsp_run s big - 2> said | head -c 10 > got"], cwd=self.room, check=False, env=os.environ)
+        self.write("big", noise(500_000))
+        done = subprocess.run(["bash", "-c", f"{sys.executable} {PYTHON}/bin/dsp_run s big - 2> said | head -c 10 > got"], cwd=self.room, check=False)
+        self.assertEqual(done.returncode, 0)
+        self.assertEqual(len((self.room / "got").read_bytes()), 10)
+        self.assertNotIn("Traceback", (self.room / "said").read_text())
+
+    def test_never_a_traceback(self) -> None:
+        """Odd words, files and programs: a sentence, and a status."""
+        self.write("odd.wav", b"RIFF\x24\0\0\0WAVEfmt ")
+        self.write("short.wav", b"RIFF")
+        self.write("empty.wav", b"")
+        self.write("empty.flac", b"")
+        self.write("text.au", "no sound\n")
+        self.write("bytes", bytes(range(256)))
+        self.write("chat", "#!/bin/sh\nwhile read -r line; do echo well; done\n").chmod(0o755)
+        good = np.zeros(100, "<i2")
+        samples.write(self.room / "ok.wav", good)
+        cut = (self.room / "ok.wav").read_bytes()[:60]
+        self.write("cut.wav", cut)
+        for words in (
+            ["s", "odd.wav", "o"], ["s", "short.wav", "o"], ["s", "empty.wav", "o"], ["s", "empty.flac", "o"], ["s", "text.au", "o"], ["s", "cut.wav", "o"], ["bytes", "in", "o"], ["s", "in", "o.xyz:1"], ["s", "in:1", "o"],
+            ["s", "in", "/dev/full"], ["s", "/dev/zero", "o"], ["s", "/dev/null", "o"], ["s", "in", "/proc/nothing/o"], ["--program", str(self.room / "chat"), "s", "in", "o"], ["--rate", "nan", "s", "in", "o.wav"], ["--rate", "-5", "s", "in", "o.wav"],
+            ["--rate", "1e99", "s", "in", "o.wav"], ["--rate", "1e99", "s", "in", "o.flac"], ["--daram", "x", "s", "in", "o"], ["s", "in", ""], ["s", "", "o"], ["", "in", "o"], ["s", "a\udcffb", "o"], ["s", "in", "o\udcff.wav"], ["--in8", "70000", "s", "in", "o"],
+        ):
+            done = subprocess.run([sys.executable, str(PYTHON / "bin" / "dsp_run"), *map(os.fsencode, words)], cwd=self.room, input=b"", capture_output=True, timeout=60, check=False)
+            with self.subTest(words=words):
+                self.assertNotIn(b"Traceback", done.stderr)
+                self.assertTrue(done.returncode == 0 or done.stderr, words)
+                self.assertEqual(self.left_over(), [])
 
 
 class Arrays(Case):

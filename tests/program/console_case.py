@@ -1,8 +1,8 @@
 # SPDX-License-Identifier: Apache-2.0
 """What the tests of the program stand on: a folder of their own, and runs of the program in it.
 
-The environment may name the program in ROKDAUM_PROGRAM (else it is the one that `./dsp_console` builds), and in ROKDAUM_PATIENCE
-how many seconds a run or a reply is waited for.
+The environment may name the program in ROKDAUM_PROGRAM (else it is the one that `./dsp_console` builds), that with the kinds of a gateway in
+ROKDAUM_GATEWAY (else the one that `./gateway_console` builds), and in ROKDAUM_PATIENCE how many seconds a run or a reply is waited for.
 """
 
 from __future__ import annotations
@@ -21,8 +21,10 @@ sys.dont_write_bytecode = True
 sys.path.insert(0, str(Path(__file__).resolve().parents[1] / "model"))
 
 from rokdaum_model.program import find_program  # noqa: E402
+from rokdaum_model.sets import GATEWAY_SET  # noqa: E402
 
 PROGRAM = str(find_program(os.environ.get("ROKDAUM_PROGRAM")))
+GATEWAY = str(find_program(os.environ.get("ROKDAUM_GATEWAY"), GATEWAY_SET))
 PATIENCE = float(os.environ.get("ROKDAUM_PATIENCE", "60"))   # seconds that a run or a reply is waited for
 HALF = b"create 0 fir 0 16384\nchain 0 0\n"
 """A channel that halves its samples."""
@@ -77,13 +79,13 @@ class ConsoleCase(unittest.TestCase):
         return (self.folder / name).exists()
 
     def run_program(self, *words_: Word, stdin: Optional[bytes] = None, environment: Optional[dict[str, str]] = None,
-                    **how) -> Ended:
+                    program: str = PROGRAM, **how) -> Ended:
         """Runs the program to its end. `how` goes to `subprocess.run`."""
         how.setdefault("stdout", subprocess.PIPE)
         how.setdefault("stderr", subprocess.PIPE)
         if stdin is None:
             how.setdefault("stdin", subprocess.DEVNULL)
-        done = subprocess.run([PROGRAM, *words_], cwd=self.folder, input=stdin, timeout=PATIENCE,
+        done = subprocess.run([program, *words_], cwd=self.folder, input=stdin, timeout=PATIENCE,
                               env={**os.environ, **environment} if environment else None, **how)
         return Ended(done.returncode, done.stdout or b"", done.stderr or b"")
 

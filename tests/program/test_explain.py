@@ -4,10 +4,13 @@
 from __future__ import annotations
 
 import re
+import tempfile
 import unittest
 from pathlib import Path
 
-from console_case import HALF, READ_FAILED, WRITE_FAILED, ConsoleCase, words
+from console_case import GATEWAY, HALF, READ_FAILED, WRITE_FAILED, ConsoleCase, Word, words
+
+from rokdaum_model.preload import build_library
 
 TOP = Path(__file__).resolve().parents[2]
 
@@ -52,6 +55,11 @@ class Refusals(ConsoleCase):
             "given:6: chain 0 0: no 4 taken: the channel has members already",
             "given:7: chain 1 0: no 8 busy: a member is in a channel already, or is named twice",
         ])
+
+    def test_how_much_of_a_line_is_shown(self) -> None:
+        """Up to 72 bytes are shown whole; of a longer line as many, and two dots."""
+        told = self.explained(b"".join(b"x" * count + b"\n" for count in (71, 72, 73, 74)))
+        self.assertEqual([line.split(": ")[1] for line in told], ["x" * 71, "x" * 72, "x" * 72 + "..", "x" * 72 + ".."])
 
     def test_each_range(self) -> None:
         rows = {
@@ -140,6 +148,29 @@ class Files(ConsoleCase):
         self.assertEqual(self.told("script", "in", "/dev/full", status=WRITE_FAILED),
                          "dsp_console: the OUT of channel 0: /dev/full: No space left on device (os error 28)\n")
 
+    def test_the_first_of_two_files_that_fail(self) -> None:
+        script = b"create 0 fir 0 1\ncreate 1 fir 1 1\nchain 0 0\nchain 1 1\nfeed 0 1\nfeed 1 1\n"
+        for outs, first in ((("/dev/full", "/dev/full"), 0), (("out", "/dev/full"), 1)):
+            ended = self.run_script(script, "--explain", "in", outs[0], "in", outs[1])
+            self.assertEqual(ended.stderr.decode(), f"dsp_console: the OUT of channel {first}: /dev/full: No space left on device (os error 28)\ndsp_console: write failed\n")
+        # An IN that can't be read and an OUT that is full: the status is that of the OUT, and so is the reason.
+        ended = self.run_script(script, "--explain", "in", "/dev/full", ".", "out")
+        self.assertEqual(ended.stderr.decode(), "dsp_console: the OUT of channel 0: /dev/full: No space left on device (os error 28)\ndsp_console: write failed\n")
+
+    def test_a_write_that_takes_nothing(self) -> None:
+        with tempfile.TemporaryDirectory(prefix="rokdaum-") as folder:
+            faulty = {"LD_PRELOAD": str(build_library(folder)), "FAULT_AT": "3", "FAULT_ERRNO": "0"}
+            ended = self.run_program("--explain", "script", "in", "out", environment=faulty)
+        self.assertEqual(ended.end, (4, b"dsp_console: the OUT of channel 0: out: write zero\n" + WRITE_FAILED[1]))
+
+    def test_a_script_that_is_too_long(self) -> None:
+        """A thousand million bytes and one more, of which a file has no block."""
+        with open(self.folder / "long", "wb") as long:
+            long.truncate(1_000_000_001)
+        ended = self.run_program("--explain", "long", "in", "out")
+        self.assertTrue(ended.stderr.endswith(b"dsp_console: SCRIPT: long: it is too long\n" + READ_FAILED[1]), ended.stderr[-300:])
+        self.assertEqual(ended.status, READ_FAILED[0])
+
     def test_full_replies(self) -> None:
         with open("/dev/full", "wb") as full:
             ended = self.run_program("--explain", "script", "in", "out", stdout=full)
@@ -160,6 +191,8 @@ class Files(ConsoleCase):
         with open(self.folder / "script", "ab") as script:
             ended = self.run_program("--explain", "script", "in", "out", stdout=script)
         self.assertEqual(ended.end, (4, b"dsp_console: the standard output: it is SCRIPT too\n" + WRITE_FAILED[1]))
+        self.assertEqual(self.told("script", "in", "/dev/stdout", status=WRITE_FAILED),
+                         "dsp_console: the OUT of channel 0: /dev/stdout: it is the standard output too\n")
         with open(self.folder / "log", "wb") as log:
             ended = self.run_program("--explain", "script", "in", "log", stdout=log)
         self.assertEqual(ended.end, (4, b"dsp_console: the OUT of channel 0: log: it is the standard output too\n" + WRITE_FAILED[1]))
@@ -178,6 +211,40 @@ class Version(ConsoleCase):
         kept = (TOP / "docs" / "dsp_console.txt").read_bytes()
         for option in ("--help", "-h"):
             self.assertEqual(self.run_program(option), (0, kept, b""))
+
+    def test_of_a_gateway(self) -> None:
+        kept = (TOP / "docs" / "gateway_console.txt").read_bytes()
+        number = (TOP / "VERSION").read_text().strip()
+        self.assertEqual(self.run_program("--help", program=GATEWAY), (0, kept, b""))
+        self.assertTrue(self.run_program("--version", program=GATEWAY).replies.startswith(f"gateway_console {number}, ".encode()))
+
+
+class OwnName(ConsoleCase):
+    """The program with the kinds of a gateway says its own name, in the line of each status and before each reason."""
+
+    def end(self, *given: Word, **how: object) -> tuple[int, str]:
+        """The status and what is said."""
+        ended = self.run_program(*given, program=GATEWAY, **how)
+        return ended.status, ended.stderr.decode()
+
+    def test_the_line_of_each_status(self) -> None:
+        self.assertEqual(self.end("script", "in"), (2, "gateway_console: ports come in pairs, 1 to 16\n"))
+        self.assertEqual(self.end("script", b"\xff", "out"), (2, "gateway_console: an argument isn't UTF-8\n"))
+        self.assertEqual(self.end("--daram=3", "script", "in", "out"), (2, "gateway_console: a space is 0 to 65536 words, a multiple of 4\n"))
+        self.assertEqual(self.end("absent", "in", "out"), (3, "gateway_console: read failed\n"))
+        self.assertEqual(self.end("script", "in", "/dev/full"), (4, "gateway_console: write failed\n"))
+
+    def test_each_reason(self) -> None:
+        absent = "No such file or directory (os error 2)\n"
+        self.assertEqual(self.end("--explain", "absent", "in", "out"), (3, f"gateway_console: SCRIPT: absent: {absent}gateway_console: read failed\n"))
+        with open("/dev/full", "wb") as full:
+            self.assertEqual(self.end("--explain", "script", "in", "out", stdout=full),
+                             (4, "gateway_console: the standard output: No space left on device (os error 28)\ngateway_console: write failed\n"))
+
+    def test_a_name_in_what_is_said_stays(self) -> None:
+        """What a file is called isn't taken for the program's name."""
+        self.assertEqual(self.end("--explain", "dsp_console", "in", "out")[1].splitlines()[0],
+                         "gateway_console: SCRIPT: dsp_console: No such file or directory (os error 2)")
 
 
 if __name__ == "__main__":

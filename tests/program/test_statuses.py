@@ -12,7 +12,7 @@ DONE = b"ok\nok\nok 2\nok 1\n"
 
 
 class Statuses(ConsoleCase):
-    """One test for each row of the table in README, with its line."""
+    """One test for each row of the table of statuses in docs/SCRIPTS.md, with its line."""
 
     def test_all_granted(self) -> None:
         ended = self.run_program("script", "in", "out")

@@ -6,9 +6,10 @@ from __future__ import annotations
 import os
 import resource
 import subprocess
+import time
 import unittest
 
-from console_case import (HALF, PROGRAM, NO_MEMORY, READ_FAILED, WRITE_FAILED, WRONG_SIZE, ConsoleCase, words)
+from console_case import (HALF, PATIENCE, PROGRAM, NO_MEMORY, READ_FAILED, WRITE_FAILED, WRONG_SIZE, ConsoleCase, words)
 
 DONE = b"ok\nok\nok 2\nok 1\n"
 
@@ -63,6 +64,27 @@ class WrittenOver(ConsoleCase):
                 self.assertEqual(self.run_program("script", "in", name, stdout=log).end, WRITE_FAILED)
         self.assertEqual(self.read("log"), b"")
 
+    def test_an_output_that_is_the_pipe_of_the_replies(self) -> None:
+        """Samples and replies would come out of one pipe, and nobody could tell them apart."""
+        for name in ("/dev/stdout", "/proc/self/fd/1", "/dev/fd/1"):
+            self.refused("script", "in", name)
+            self.refused("script", "in", "old", "in1", name)
+        # Of another pipe it is none of the two.
+        reader, writer = os.pipe()
+        self.addCleanup(os.close, reader)
+        ended = self.run_program("script", "in", f"/dev/fd/{writer}", pass_fds=(writer,))
+        os.close(writer)
+        self.assertEqual((ended.end, ended.replies), ((0, b""), DONE))
+        self.assertEqual(os.read(reader, 100), words(1, 2, 3))
+
+    def test_a_fifo_of_the_replies(self) -> None:
+        os.mkfifo(self.folder / "fifo")
+        reader = os.open(self.folder / "fifo", os.O_RDONLY | os.O_NONBLOCK)
+        self.addCleanup(os.close, reader)
+        with open(self.folder / "fifo", "wb") as fifo:
+            self.assertEqual(self.run_program("script", "in", "fifo", stdout=fifo).end, WRITE_FAILED)
+        self.assertEqual(os.read(reader, 100), b"")
+
     def test_a_script_that_is_where_the_replies_go(self) -> None:
         """The replies would be lines of the script."""
         with open(self.folder / "script", "ab") as script:
@@ -76,9 +98,11 @@ class WrittenOver(ConsoleCase):
         self.assertEqual(ended.end, (0, b""))
         ended = self.run_script(script, "/dev/zero", "/dev/null", "/dev/zero", "/dev/null")
         self.assertEqual(ended.end, (0, b""))
-        ended = self.run_script(script, "in", "/dev/stdout", "in1", "/dev/stdout")
-        self.assertEqual(ended.end, (0, b""))
-        self.assertEqual(ended.replies, words(1, 2, 4, 5) + b"ok\n" * 4 + b"ok 2\n" * 2)
+        os.mkfifo(self.folder / "fifo")
+        reader = os.open(self.folder / "fifo", os.O_RDONLY | os.O_NONBLOCK)
+        self.addCleanup(os.close, reader)
+        self.assertEqual(self.run_script(script, "in", "fifo", "in1", "fifo").end, (0, b""))
+        self.assertEqual(os.read(reader, 100), words(1, 2, 4, 5))
 
     def test_a_terminal_may_be_everything(self) -> None:
         master, slave = os.openpty()
@@ -104,6 +128,22 @@ class WrittenOver(ConsoleCase):
         script = HALF + b"create 1 fir 1 16384\nchain 1 1\nfeed 0 3\nfeed 1 3\n"
         self.assertEqual(self.run_script(script, "in", "out", "in", "out1").status, 0)
         self.assertEqual((self.read("out"), self.read("out1")), (words(1, 2, 3), words(1, 2, 3)))
+
+
+class FilledMeanwhile(ConsoleCase):
+    def test_an_output_that_somebody_has_filled_stays(self) -> None:
+        """A run that doesn't begin takes the OUTs away again that it made, but for one that isn't empty any more. The run waits at a FIFO meanwhile."""
+        os.mkfifo(self.folder / "fifo")
+        with subprocess.Popen([PROGRAM, "script", "in", "new", "fifo", "other", "in", "in"], cwd=self.folder, stdin=subprocess.DEVNULL,
+                              stdout=subprocess.PIPE, stderr=subprocess.PIPE) as run:
+            until = time.monotonic() + PATIENCE
+            while not self.exists("new") and time.monotonic() < until:
+                time.sleep(0.01)
+            self.write("new", b"filled by somebody")
+            with open(self.folder / "fifo", "wb"):
+                self.assertEqual(run.communicate(timeout=PATIENCE), (b"", WRITE_FAILED[1]))
+        self.assertEqual(run.returncode, WRITE_FAILED[0])
+        self.assertEqual((self.read("new"), self.exists("other")), (b"filled by somebody", False))
 
 
 class Unbegun(ConsoleCase):

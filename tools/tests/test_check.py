@@ -3,11 +3,18 @@
 
 from __future__ import annotations
 
+import contextlib
 import importlib.machinery
 import importlib.util
+import io
+import json
+import os
+import subprocess
 import sys
+import tempfile
 import unittest
 from pathlib import Path
+from unittest import mock
 
 TOP = Path(__file__).resolve().parents[2]
 sys.path.insert(0, str(TOP / "tools"))
@@ -53,24 +60,20 @@ rt: low: its tests passed
 
 
 class Counting(unittest.TestCase):
-    def counts(self, text: str, ended: int) -> tuple[int, int]:
-        outcome = check.counted(text, ended)
+    def counts(self, text: str, ended: int, kept: str = "") -> tuple[int, int]:
+        outcome = check.counted(text, ended, kept)
         return outcome.passed, outcome.failed
 
-    def test_the_last_line_counts(self) -> None:
+    def test_what_a_part_keeps_counts(self) -> None:
+        self.assertEqual(self.counts("9 passed, 0 failed\n", 0, '{"passed": 4, "failed": 0}\n'), (4, 0))
+        self.assertEqual(self.counts("anything\n", 1, '{"passed": 4, "failed": 3}'), (4, 3))
+
+    def test_the_last_line_of_rt_counts(self) -> None:
         self.assertEqual(self.counts("1 passed, 2 failed\n9 passed, 0 failed\n\n", 0), (9, 0))
-        self.assertEqual(self.counts("90 worked rows, 0 differ\n", 0), (90, 0))
-        self.assertEqual(self.counts("2,000 cases of seed x, 4,000 runs of the program, 3 differ; 4 s\n", 1), (1997, 3))
-        self.assertEqual(self.counts("28 documents, 40 wrong\n", 1), (0, 40))
+        self.assertEqual(self.counts("28 documents, 40 wrong\n", 1), (0, 1))
 
     def test_what_a_part_says_of_itself_is_kept(self) -> None:
         self.assertEqual(check.counted("a\n90 worked rows, 0 differ\n", 0).said, "90 worked rows, 0 differ")
-        self.assertEqual(check.counted("Ran 5 tests in 1.0s\n\nOK\n", 0).said, "Ran 5 tests in 1.0s")
-
-    def test_python_tests_count(self) -> None:
-        self.assertEqual(self.counts("Ran 5 tests in 1.0s\n\nOK\n", 0), (5, 0))
-        self.assertEqual(self.counts("Ran 5 tests in 1.0s\n\nFAILED (failures=1, errors=1)\n", 1), (3, 2))
-        self.assertEqual(self.counts("Ran 5 tests in 1.0s\n\nFAILED (errors=2)\n", 1), (3, 2))
 
     def test_a_part_that_counts_nothing_is_one(self) -> None:
         self.assertEqual(self.counts("all as it should be\n", 0), (1, 0))
@@ -78,13 +81,128 @@ class Counting(unittest.TestCase):
 
     def test_a_bad_end_is_a_failure_whatever_was_counted(self) -> None:
         self.assertEqual(self.counts("5 passed, 0 failed\n", 1), (5, 1))
+        self.assertEqual(self.counts("", 1, '{"passed": 5, "failed": 0}'), (5, 1))
 
     def test_nothing_passed_is_a_failure(self) -> None:
         self.assertEqual(self.counts("0 passed, 0 failed\n", 0), (0, 1))
+        self.assertEqual(self.counts("", 0, '{"passed": 0, "failed": 0}'), (0, 1))
 
-    def test_a_part_without_its_command_is_told_of(self) -> None:
-        part = check.Part("x", ("true",), "", needs=("no_such_command_here",), runs="")
-        self.assertIn("no_such_command_here", check.lacking(part))
+    def test_tests_of_unittest_are_counted(self) -> None:
+        """Skipped ones haven't passed."""
+        with tempfile.TemporaryDirectory() as folder:
+            Path(folder, "test_it.py").write_text(
+                "import unittest\nclass It(unittest.TestCase):\n    def test_a(self): pass\n    def test_b(self): self.fail()\n"
+                "    def test_c(self): raise OSError\n    @unittest.skip('no luck')\n    def test_d(self): pass\n    def test_e(self): pass\n")
+            count = Path(folder, "count")
+            ran = subprocess.run([sys.executable, "-B", TOP / "tools" / "counted.py", "-s", folder], env={**os.environ, "ROKDAUM_COUNT": str(count)}, capture_output=True, text=True)
+            self.assertEqual((ran.returncode, json.loads(count.read_text())), (1, {"passed": 2, "failed": 2}))
+            self.assertIn("no luck", ran.stdout)
+            Path(folder, "test_it.py").write_text("")
+            self.assertEqual(subprocess.run([sys.executable, "-B", TOP / "tools" / "counted.py", "-s", folder], capture_output=True).returncode, 1)
+
+    def test_shell_scripts_keep_their_count(self) -> None:
+        with tempfile.TemporaryDirectory() as folder:
+            count = Path(folder, "count")
+            subprocess.run([TOP / "examples" / "check", "false"], env={**os.environ, "ROKDAUM_COUNT": str(count)}, capture_output=True)
+            told = json.loads(count.read_text())
+            self.assertEqual(told["passed"], 0)
+            self.assertGreater(told["failed"], 5)
+
+
+class Packages(unittest.TestCase):
+    """What is missing on a machine whose dpkg-query knows these packages, and who may install it."""
+
+    def setUp(self) -> None:
+        self.bin = Path(self.enterContext(tempfile.TemporaryDirectory()))
+        self.enterContext(mock.patch.dict(os.environ, {"PATH": str(self.bin)}))
+        self.enterContext(mock.patch.object(check, "LOGS", self.bin))
+        self.said = self.enterContext(contextlib.redirect_stdout(io.StringIO()))
+
+    def put(self, name: str, text: str) -> None:
+        (self.bin / name).write_text(f"#!/bin/sh\n{text}\n")
+        (self.bin / name).chmod(0o755)
+
+    def know(self, *names: str) -> None:
+        self.put("dpkg-query", "".join(f"echo {name} installed;" for name in names) + "echo sox config-files")
+
+    def test_what_is_not_installed_is_missing(self) -> None:
+        self.know("gcc")
+        part = check.Part("x", ("true",), "", needs=("gcc", "sox", "no-such-package"), runs=())
+        self.assertEqual(check.missing_packages([part]), ["no-such-package", "sox"])
+        self.assertIn("apt-get install no-such-package sox", check.lacking(part))
+
+    def test_elsewhere_than_on_debian_nothing_is_asked(self) -> None:
+        self.assertEqual(check.missing_packages(check.PARTS), [])
+
+    def test_root_installs_them(self) -> None:
+        self.put("apt-get", f'echo "$@" >> {self.bin}/asked')
+        with mock.patch.object(check.os, "geteuid", return_value=0):
+            self.assertTrue(check.set_up(["sox", "mypy"]))
+        self.assertEqual((self.bin / "asked").read_text(), "update\ninstall -y sox mypy\n")
+
+    def test_sudo_without_a_password_installs_them(self) -> None:
+        self.put("apt-get", "exit 0")
+        self.put("sudo", f'printf "%s\\n" "$*" >> {self.bin}/asked')
+        with mock.patch.object(check.os, "geteuid", return_value=1000):
+            self.assertTrue(check.set_up(["sox"]))
+        self.assertEqual((self.bin / "asked").read_text(), "-n true\n-n apt-get update\n-n apt-get install -y sox\n")
+
+    def test_another_user_is_told_the_command(self) -> None:
+        self.put("apt-get", "exit 0")
+        self.put("sudo", "exit 1")
+        with mock.patch.object(check.os, "geteuid", return_value=1000):
+            self.assertFalse(check.set_up(["mypy", "sox"]))
+        self.assertIn("sudo sh -c 'apt-get update && apt-get install mypy sox'", self.said.getvalue())
+
+    def test_a_failed_install_is_told(self) -> None:
+        self.put("apt-get", "echo no network; exit 100")
+        with mock.patch.object(check.os, "geteuid", return_value=0):
+            self.assertFalse(check.set_up(["sox"]))
+        self.assertEqual((self.bin / "packages.log").read_text(), "no network\n")
+
+    def test_nothing_is_run_without_them(self) -> None:
+        self.know("gcc")
+        self.put("apt-get", "exit 100")
+        with mock.patch.object(check.sys, "argv", ["check", "compat"]), mock.patch.object(check, "run_all") as ran:
+            self.assertEqual(check.main(), 2)
+            ran.assert_not_called()
+        with mock.patch.object(check.sys, "argv", ["check", "--anyway", "compat"]), mock.patch.object(check, "run_all", return_value={"compat": check.Outcome(0, 1)}) as ran:
+            self.assertEqual(check.main(), 1)
+            ran.assert_called_once()
+
+    def test_the_list_is_what_the_parts_need(self) -> None:
+        kept = [line for line in check.PACKAGES.read_text().splitlines() if not line.startswith("#")]
+        self.assertEqual(kept, sorted({it for part in check.PARTS if not part.by_name for it in part.needs}))
+
+
+class Touched(unittest.TestCase):
+    """A part that changes a file that isn't its own has failed."""
+
+    def setUp(self) -> None:
+        self.top = Path(self.enterContext(tempfile.TemporaryDirectory()))
+        subprocess.run(["git", "init", "-q", self.top], check=True)
+        (self.top / ".gitignore").write_text("out/\n")
+        (self.top / "speech.wav").write_bytes(b"the user's own")
+        (self.top / "out").mkdir()
+        self.enterContext(mock.patch.object(check, "TOP", self.top))
+        self.enterContext(mock.patch.object(check, "LOGS", self.top / "out"))
+        self.said = self.enterContext(contextlib.redirect_stdout(io.StringIO()))
+
+    def run_part(self, command: str) -> tuple[int, int]:
+        outcome = check.run(check.Part("x", ("sh", "-c", command), "", runs=()), False)
+        return outcome.passed, outcome.failed
+
+    def test_a_part_in_a_folder_of_its_own(self) -> None:
+        self.assertEqual(self.run_part("echo x > out/mine"), (1, 0))
+
+    def test_a_changed_a_made_and_a_removed_file(self) -> None:
+        for command in ("echo x >> speech.wav", "echo x > phone.raw", "rm speech.wav"):
+            with self.subTest(command=command):
+                self.assertEqual(self.run_part(command), (1, 1))
+        self.assertIn("speech.wav", self.said.getvalue())
+
+    def test_the_same_octets_written_again(self) -> None:
+        self.assertEqual(self.run_part("sleep 0.02; cp speech.wav out/a; cat out/a > speech.wav"), (1, 1))
 
 
 class Status(unittest.TestCase):

@@ -258,46 +258,164 @@ class Closures(Checkout):
             self.assertIn(wanted, said.getvalue())
 
 
+class Style(Checkout):
+    """Lengths, forms, figures of speed, the notebook and the picture."""
+
+    def test_a_line_of_120_letters(self) -> None:
+        self.put("docs/MORE.md", MORE + "\n" + "x" * 120 + "\n")
+        self.assertEqual(self.problems(), [])
+        self.put("docs/MORE.md", MORE + "\n" + "x" * 121 + "\n")
+        self.assert_one("docs/MORE.md:5", "121 letters: at most 120")
+
+    def test_what_cannot_be_broken_is_exempt_but_in_the_readme(self) -> None:
+        long = "x" * 130
+        written = f"<!-- table: one -->\n{long}\n<!-- end of the table -->\n"
+        self.put("docs/MORE.md", f"{MORE}\n| {long} |\n\n    {long}\n\n```\n{long}\n```\n\n## {long}\n\n{written}")
+        self.assertEqual(self.problems(), [])
+        self.put("README.md", f"{README}\n| {long} |\n")
+        self.assert_one("README.md:9", "134 letters")
+
+    def test_lines_and_words_of_the_readme(self) -> None:
+        self.put("README.md", README + "\n" + "word " * 15 + "\n")
+        self.assertEqual(self.problems(), [])
+        self.put("README.md", README + ("\n" + "word " * 15) * 120 + "\n")
+        self.assert_one("README.md", "words: at most 1800")
+        self.put("README.md", README + "\n" * 250)
+        self.assert_one("README.md", "lines: at most 250")
+
+    def test_forms_that_may_not_come_back(self) -> None:
+        for text, better in (
+            ("A refused line is told at once.", "report"),
+            ("It takes some ten minutes.", "about ten"),
+            ("It takes some 1,000 words.", "about ten"),
+            ("A kind of one's own.", "your own"),
+            ("The commands stand in a folder.", "is in"),
+            ("Write what stands behind it.", "what is"),
+            ("Where nothing is said it is 0.", "default"),
+            ("Who wants to know reads on.", "if you want"),
+            ("A creation is granted.", "accepted"),
+        ):
+            self.put("docs/MORE.md", f"{MORE}\n{text}\n")
+            self.assertTrue(any(better in problem and "docs/MORE.md:5" in problem for problem in self.problems()), text)
+
+    def test_quoted_forms_are_no_forms(self) -> None:
+        self.put("docs/MORE.md", MORE + '\nThe clause `doubled` says "is told"; the people who want more.\n\n    stands in\n')
+        self.assertEqual(self.problems(), [])
+        self.put("docs/STYLE.md", "# Style\n\nNever: the program is told.\n")
+        self.assertEqual(self.problems(), [])
+        self.put("docs/PROVED.md", "# Proved\n\n| what is told |\n")
+        self.assertEqual(self.problems(), [])
+        self.put("docs/PROVED.md", "# Proved\n\nThe program is told.\n")
+        self.assert_one("docs/PROVED.md:3", "'is told'")
+
+    def test_a_figure_of_speed_among_the_decisions(self) -> None:
+        decided = "# Decisions\n\n- `double`: **twice**, since 1,024 words are few and a feed of 20 ms has 160 samples.\n"
+        self.put("docs/DECISIONS.md", decided)
+        self.assertEqual(self.problems(), [])
+        for figure in ("318 instructions", "one instruction, 5 more instructions", "13 ns", "0.5 microseconds", "2 per cent", "15 %", "15%"):
+            self.put("docs/DECISIONS.md", f"{decided}- `double`: it takes {figure} each.\n")
+            self.assert_one("docs/DECISIONS.md:4", "is a figure of speed: bench/NOTEBOOK.md")
+        self.put("docs/DECISIONS.md", f"{decided}- **Twice** is what `double` gives.\n")
+        self.assert_one("docs/DECISIONS.md:4", "begins with what it is about")
+        self.put("docs/DECISIONS.md", decided)
+        self.put("docs/MORE.md", MORE + "\nIt takes 318 instructions.\n")
+        self.assertEqual(self.problems(), [])
+
+    def test_a_row_of_the_notebook(self) -> None:
+        head = "# Notebook\n\n| date | machine | command | minutes |\n|---|---|---|---|\n"
+        self.put("bench/NOTEBOOK.md", head + "| 2026-12-01 | one, bound to 2 | `rt ci` | 42 |\n\n| date | machine | command |\n|---|---|---|\n")
+        self.put("tools/outside_names.txt", "kit: ci\n")
+        self.assertEqual([problem for problem in self.problems() if "NOTEBOOK" in problem], [])
+        for row, what in (("| yesterday | one | `rt ci` | 42 |", "date"), ("| 2026-12-01 | | `rt ci` | 42 |", "machine"), ("| 2026-12-01 | one | by hand | 42 |", "command")):
+            self.put("bench/NOTEBOOK.md", head + row + "\n")
+            self.assertEqual([problem for problem in self.problems() if "NOTEBOOK" in problem], [f"bench/NOTEBOOK.md:5: the row has no {what}"])
+        self.put("bench/NOTEBOOK.md", "# Notebook\n\n| date | machine | minutes |\n|---|---|---|\n")
+        self.assertEqual([problem for problem in self.problems() if "NOTEBOOK" in problem], ["bench/NOTEBOOK.md:3: the table has no column command"])
+
+    def test_the_picture(self) -> None:
+        root = Path(__file__).resolve().parents[2]
+        self.put("crates.txt", (root / "crates.txt").read_text(encoding="utf-8"))
+        self.put("README.md", "# Title\n")
+        self.put("docs/MORE.md", "# A part\n")
+        crates = architecture.House.read(self.root).crates
+        self.put("docs/architecture.svg", architecture.draw(crates))
+        self.assertEqual(self.problems(), [])
+        self.put("docs/architecture.svg", architecture.draw(crates).replace("mem_rec", "mem"))
+        self.assert_one("docs/architecture.svg", "the picture is stale")
+        self.assertIn("docs/architecture.svg", documents.write(documents.Repository(self.root)))
+        self.assertEqual(self.problems(), [])
+        self.put("crates.txt", (root / "crates.txt").read_text(encoding="utf-8").replace("\nbasic_op:", "\nbasic_op: ialg"))
+        self.put("docs/architecture.svg", architecture.draw(architecture.House.read(self.root).crates))
+        self.assert_one("crates.txt", "basic_op (height 0) uses ialg (height 1)")
+
+
 class Pictures(unittest.TestCase):
-    def test_arrows_leave_out_what_others_reach(self) -> None:
-        house = architecture.House.read("ialg:\nalg_fir: ialg\nvoice_set: alg_fir ialg arrayvec\n")
-        self.assertEqual(house.arrows(), [("alg_fir", "ialg"), ("voice_set", "alg_fir")])
-        self.assertEqual(house.titles, ["algorithms", "base"])
+    """The map of the crates, over checkouts of a few crates of their own."""
+
+    def setUp(self) -> None:
+        folder = tempfile.TemporaryDirectory()
+        self.addCleanup(folder.cleanup)
+        self.root = Path(folder.name)
+        (self.root / "docs").mkdir()
+
+    def house(self, text: str) -> architecture.House:
+        (self.root / "crates.txt").write_text(text, encoding="utf-8")
+        return architecture.House.read(self.root)
+
+    def run_tool(self, word: str) -> tuple[int, str]:
+        said = io.StringIO()
+        with contextlib.redirect_stderr(said):
+            return architecture.main([word, "--root", str(self.root)]), said.getvalue()
 
     def test_headings_are_layers(self) -> None:
-        house = architecture.House.read("## base\nlow:\n## top\nhigh: low\n")
-        self.assertEqual((house.titles, house.layer), (["top", "base"], {"low": "base", "high": "top"}))
+        house = self.house("## base\nlow:\n## top\nhigh: low arrayvec  # a library\n")
+        self.assertEqual(house.layers, ["top", "base"])
+        self.assertEqual((house.of_layer("top"), house.of_layer("base")), (["high"], ["low"]))
+        self.assertEqual(house.crates["high"].uses, ("low",))
 
-    def test_a_crate_of_no_layer(self) -> None:
-        house = architecture.House.read("ialg:\nnobody_knows: ialg\n")
-        self.assertEqual(house.of_layer(architecture.OTHERS), ["nobody_knows"])
+    def test_a_crate_uses_what_is_lower(self) -> None:
+        places = {"low": architecture.Place(architecture.RUNS, 0, "low"), "high": architecture.Place(architecture.KINDS, 1, "high")}
+        self.assertEqual(architecture.broken_rules(self.house("low:\nhigh: low\n").crates, places), [])
+        found = architecture.broken_rules(self.house("low: high\nhigh:\n").crates, places)
+        self.assertEqual(found, ["low (height 0) uses high (height 1), which isn't lower"])
+        level = {name: architecture.Place(architecture.RUNS, 0, name) for name in places}
+        self.assertEqual(len(architecture.broken_rules(self.house("low:\nhigh: low\n").crates, level)), 1)
 
-    def test_sections(self) -> None:
-        text = "# each crate\nialg:\n# for tests alone\ntest_runs: voice_set\n# the kernel of filters\nalg_fir: ialg\nvoice_set: alg_fir\n"
-        wanted = "# each crate and the libraries that it uses, from the bottom up\n\n## base\nialg:\n\n## algorithms\n# the kernel of filters\nalg_fir: ialg\nvoice_set: alg_fir\n\n## tests\ntest_runs: voice_set\n"
-        house = architecture.House.read(text)
-        self.assertEqual(architecture.sections(text, house), wanted)
-        again = architecture.House.read(wanted)
-        self.assertEqual((again.layer, again.titles), (house.layer, house.titles))
-        self.assertEqual(architecture.sections(wanted, again), wanted)
+    def test_a_crate_without_a_place_and_a_place_without_a_crate(self) -> None:
+        places = {"low": architecture.Place(architecture.RUNS, 0, "low")}
+        found = architecture.broken_rules(self.house("high:\n").crates, places)
+        self.assertEqual([text.split(":")[0] for text in found], ["high has no place", "low has a place and isn't in crates.txt"])
 
-    def test_a_crate_that_stands_on_a_layer_above(self) -> None:
-        house = architecture.House.read("ialg: alg_fir\nalg_fir:\n")
-        self.assertEqual(architecture.upward(house), [("ialg", "alg_fir")])
+    def test_the_check_refuses_a_broken_rule_in_a_fresh_picture(self) -> None:
+        self.house("basic_op: ialg\nialg:\n")
+        self.assertEqual(self.run_tool("--write")[0], 1)
+        status, said = self.run_tool("--check")
+        self.assertEqual(status, 1)
+        self.assertIn("basic_op (height 0) uses ialg (height 1), which isn't lower", said)
+        self.assertNotIn("stale", said)
 
     def test_a_stale_picture(self) -> None:
-        with tempfile.TemporaryDirectory() as folder:
-            root = Path(folder)
-            (root / "docs").mkdir()
-            (root / "crates.txt").write_text("ialg:\n")
-            said = io.StringIO()
-            with contextlib.redirect_stderr(said):
-                self.assertEqual(architecture.main(["--check", "--root", folder]), 1)
-                self.assertEqual(architecture.main(["--write", "--root", folder]), 0)
-                self.assertEqual(architecture.main(["--check", "--root", folder]), 0)
-                (root / "crates.txt").write_text("ialg:\nalg_fir: ialg\n")
-                self.assertEqual(architecture.main(["--check", "--root", folder]), 1)
-            self.assertIn("stale", said.getvalue())
+        root = Path(__file__).resolve().parents[2]
+        self.house((root / "crates.txt").read_text(encoding="utf-8"))
+        self.assertIn("stale", self.run_tool("--check")[1])
+        self.assertEqual(self.run_tool("--write"), (0, ""))
+        self.assertEqual(self.run_tool("--check"), (0, ""))
+        source = self.root / "crates/ialg/src/lib.rt"
+        source.parent.mkdir(parents=True)
+        source.write_text("//! More.\n" * 100)
+        status, said = self.run_tool("--check")
+        self.assertEqual(status, 1)
+        self.assertIn("stale", said)
+
+    def test_each_crate_has_its_box_and_each_walk_its_dots(self) -> None:
+        root = Path(__file__).resolve().parents[2]
+        house = architecture.House.read(root)
+        picture = architecture.draw(house.crates)
+        for name in house.crates:
+            self.assertIn(f">{name}</text>", picture)
+        for walk in architecture.WALKS:
+            self.assertEqual(picture.count(f'r="8.5" fill="{walk.colour}"'), len(walk.crates) + 1)
+            self.assertLessEqual(set(walk.crates), set(house.crates))
 
 
 if __name__ == "__main__":

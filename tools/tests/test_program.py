@@ -4,12 +4,14 @@
 from __future__ import annotations
 
 import os
+import re
 import shutil
 import subprocess
 import sys
 import tempfile
 import time
 import unittest
+from collections.abc import Callable
 from pathlib import Path
 from unittest import mock
 
@@ -17,6 +19,7 @@ TOP = Path(__file__).resolve().parents[2]
 sys.path.insert(0, str(TOP / "tools"))
 
 import program  # noqa: E402  (it stands in tools/)
+from crates import Crate, closure, parse  # noqa: E402
 
 KIT = "rattle-kit-1 logic 00ff"
 # Says its version, or proves both crates and makes a program that prints its text, or fails where a source says so.
@@ -203,6 +206,90 @@ class Parts(unittest.TestCase):
                 self.assertTrue(below not in listed or below in crates[:at], (crate, below))
 
 
+class Listed(unittest.TestCase):
+    def test_a_list_is_read(self) -> None:
+        found = parse("# of all\n## base\nlow: arrayvec  # a comment\n\n## upper\nhigh staticlib : low arrayvec\nbare:\n")
+        self.assertEqual(list(found.values()), [Crate("low", ("arrayvec",), False, "base"), Crate("high", ("low", "arrayvec"), True, "upper"), Crate("bare", (), False, "upper")])
+        self.assertEqual([it.line for it in found.values()], ["low: arrayvec\n", "high staticlib: low arrayvec\n", "bare: \n"])
+        self.assertEqual(closure(found, "bare", "high"), ["bare", "low", "high"])
+
+    def test_each_line_of_the_repositorys_is_read(self) -> None:
+        lines = [line for line in (TOP / "crates.txt").read_text().splitlines() if line.strip() and not line.startswith("#")]
+        self.assertEqual(len(parse((TOP / "crates.txt").read_text())), len(lines))
+
+
+class Minutes(unittest.TestCase):
+    """What a build says of the minutes left: by the pace of this machine, and never growing."""
+
+    def said(self, pace: Callable[[int], float], kept: float | None = None) -> list[tuple[float, int, str]]:
+        """Of a build of forty crates, one on the other, each of which takes so many times what it takes on idle processors: at each crate
+        the minutes that really are left, those that are said, and the line."""
+        names = [f"crate_{at}" for at in range(40)]
+        listed = {name: Crate(name, (names[at - 1],) if at else ()) for at, name in enumerate(names)}
+        lines: list[str] = []
+        now = [0.0]
+        with mock.patch.object(program, "listed", return_value=listed), mock.patch.object(program, "source_files", return_value=[]), \
+                mock.patch.object(program, "CRATE_SECONDS", 24.0), mock.patch.object(program, "kept_pace", return_value=kept), \
+                mock.patch.object(program.time, "monotonic", side_effect=lambda: now[0]):
+            progress = program.Progress(names, lines.append)
+            progress.begin()
+            now[0] += program.READ_SECONDS
+            ends = []
+            for at, name in enumerate(names):
+                now[0] += 24.0 * pace(at)
+                ends.append(now[0])
+                progress.proved(name)
+        self.begun = lines[0]
+        told = [(line, re.search(r"(\d+) minutes left", line)) for line in lines[1:-1]]
+        return [((now[0] - end) / 60, int(found[1]), line) for end, (line, found) in zip(ends, told) if found]
+
+    def test_they_never_grow(self) -> None:
+        for pace in (lambda at: 1.0, lambda at: 2.0, lambda at: 1.0 if at < 20 else 4.0, lambda at: 4.0 if at < 20 else 1.0, lambda at: 0.5 + at % 3):
+            minutes = [said for _, said, _ in self.said(pace)]
+            self.assertEqual(minutes, sorted(minutes, reverse=True))
+            self.assertEqual(len(minutes), 39)
+
+    def test_they_are_true_of_a_steady_machine(self) -> None:
+        for pace in (1.0, 1.5, 2.0):
+            for left, said, line in self.said(lambda at: pace)[20:]:
+                self.assertLess(abs(left - said), 3, line)
+            for left, said, line in self.said(lambda at: pace, kept=pace):
+                self.assertLess(abs(left - said), 3, line)
+
+    def test_a_build_that_falls_behind_says_so(self) -> None:
+        self.assertTrue(any("more than" in line for _, _, line in self.said(lambda at: 1.0 if at < 30 else 8.0)))
+
+    def test_the_first_line_has_a_range_or_this_machines_minutes(self) -> None:
+        self.said(lambda at: 1.0)
+        self.assertIn("in 18 to 35 minutes, as the machine is", self.begun)
+        self.said(lambda at: 1.0, kept=1.5)
+        self.assertIn("in about 26 minutes", self.begun)
+
+    def test_what_is_proved_already_is_not_counted(self) -> None:
+        lines: list[str] = []
+        listed = {"low": Crate("low"), "high": Crate("high", ("low",))}
+        with mock.patch.object(program, "listed", return_value=listed), mock.patch.object(program, "source_files", return_value=[]):
+            progress = program.Progress(["low", "high"], lines.append, ("high",), ("low",))
+            progress.begin()
+            progress.proved("low")
+            progress.proved("high")
+        self.assertIn("1 of 2 crates are proved already, and 1 are left", lines[0])
+        self.assertEqual(lines[1:], ["proved high, 2 of 2, the program is next"])
+
+    def test_a_pace_is_kept_of_a_long_build_alone(self) -> None:
+        with tempfile.TemporaryDirectory() as folder, mock.patch.object(program, "pace_file", return_value=Path(folder) / "out" / "pace.json"):
+            self.assertIsNone(program.kept_pace())
+            progress = program.Progress([], print, ("none",))
+            progress.end()
+            self.assertIsNone(program.kept_pace())
+            progress.whole, progress.began = 1000.0, time.monotonic() - 1500
+            progress.end()
+            self.assertAlmostEqual(program.kept_pace() or 0, 1.5, 1)
+            for wrong in ("", "{}", "[]", '{"pace": "x"}', '{"pace": -1}'):
+                program.pace_file().write_text(wrong)
+                self.assertIsNone(program.kept_pace(), wrong)
+
+
 class Ahead(unittest.TestCase):
     """The run for the longest chain, of a program over two crates that stand on each other and over five that stand on one."""
 
@@ -210,8 +297,7 @@ class Ahead(unittest.TestCase):
         self.room = Path(self.enterContext(tempfile.TemporaryDirectory()))
         sides = [f"side_{it}" for it in range(5)]
         listed = {"low": [], **{it: ["low"] for it in sides}, "mid": ["low"], "high": ["mid"], "main": [*sides, "high"]}
-        self.enterContext(mock.patch.object(program, "uses", return_value=listed))
-        self.enterContext(mock.patch.object(program, "is_archive", return_value=False))
+        self.enterContext(mock.patch.object(program, "listed", return_value={name: Crate(name, tuple(below)) for name, below in listed.items()}))
         self.enterContext(mock.patch.object(program, "source_files", return_value=[]))
         self.said: list[str] = []
         self.progress = program.Progress(program.closure("main"), self.said.append)

@@ -61,7 +61,7 @@ class Release(unittest.TestCase):
             (self.top / path).write_text(text)
         shutil.copy(TOP / "Makefile", self.top)
         (self.top / "tools").mkdir()
-        for tool in ("program.py", "release.py"):
+        for tool in ("crates.py", "program.py", "release.py"):
             shutil.copy(TOP / "tools" / tool, self.top / "tools")
         for path in ("examples/x", "python/bin/dsp_run", "python/bin/dsp_design", "python/bin/dsp_map"):
             (self.top / path).chmod(0o755)
@@ -201,6 +201,13 @@ class Pages(unittest.TestCase):
         self.assertEqual(self.options(page), self.wanted)
         self.assertIn(f'"Rokdaum {(TOP / "VERSION").read_text().strip()}"', page)
 
+    def test_the_man_page_of_a_gateway_has_the_options_of_help(self) -> None:
+        page = (TOP / "docs/man/gateway_console.1").read_text(encoding="utf-8").replace("\\-", "-")
+        for option in re.findall(r"--[a-z0-9]+", (TOP / "docs/gateway_console.txt").read_text(encoding="utf-8")):
+            self.assertIn(option, page)
+        ran = subprocess.run(("groff", "-man", "-Tutf8", "-ww", "-z", TOP / "docs/man/gateway_console.1"), capture_output=True, text=True, check=True)
+        self.assertEqual(ran.stderr, "")
+
     def test_the_man_page_has_no_fault(self) -> None:
         ran = subprocess.run(("groff", "-man", "-Tutf8", "-ww", "-z", TOP / "docs/man/dsp_console.1"), capture_output=True, text=True, check=True)
         self.assertEqual(ran.stderr, "")
@@ -210,6 +217,10 @@ class Pages(unittest.TestCase):
         script = 'source "$0"; COMP_WORDS=("$@"); COMP_CWORD=$(($# - 1)); _dsp_console; printf "%s\\n" "${COMPREPLY[@]}"'
         ran = subprocess.run(("bash", "-c", script, TOP / "docs/completion/dsp_console", "dsp_console", *words), cwd=TOP, capture_output=True, text=True, check=True)
         return ran.stdout.split()
+
+    def test_the_completion_is_for_both_programs(self) -> None:
+        ran = subprocess.run(("bash", "-c", ". docs/completion/dsp_console; complete -p dsp_console gateway_console"), cwd=TOP, capture_output=True, text=True, check=True)
+        self.assertEqual(len(ran.stdout.splitlines()), 2)
 
     def test_the_completion_has_the_options_of_help(self) -> None:
         self.assertEqual(set(self.complete("--")), self.wanted)

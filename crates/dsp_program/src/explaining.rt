@@ -1,5 +1,5 @@
 //! Why a file failed, said on the standard error where that is asked for.
-use dsp_arguments::Arguments;
+use dsp_arguments::{About, Arguments};
 use dsp_console::Fault;
 use port_files::{Role, Trouble, Troubles};
 
@@ -17,6 +17,7 @@ fn path_of<'a>(arguments: &Arguments<'a>, role: Role) -> Option<&'a str> {
 /// Tells which file failed and why.
 pub(crate) fn explain_fault<R: Eprint>(
     rt: &R,
+    about: &About,
     arguments: &Arguments<'_>,
     fault: Fault,
     troubles: &Troubles,
@@ -27,11 +28,14 @@ pub(crate) fn explain_fault<R: Eprint>(
         Fault::Size | Fault::Memory => return,
     };
     let Some(Trouble { role, why }) = trouble else {
-        let _ = eprintln!(rt; "dsp_console: SCRIPT: {}: it is too long", arguments.script);
+        let _ = eprintln!(rt;
+            "{}: SCRIPT: {}: it is too long",
+            about.name, arguments.script
+        );
         return;
     };
     let _ = match path_of(arguments, *role) {
-        Some(path) => eprintln!(rt; "dsp_console: {role}: {path}: {why}"),
-        None => eprintln!(rt; "dsp_console: {role}: {why}"),
+        Some(path) => eprintln!(rt; "{}: {role}: {path}: {why}", about.name),
+        None => eprintln!(rt; "{}: {role}: {why}", about.name),
     };
 }

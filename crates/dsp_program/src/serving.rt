@@ -3,7 +3,7 @@ ghost use Rattle.std.specs.Prelude.{◌≡◌, ◌+◌, ◌≤◌, [], false, le
 ghost use Rattle.script_server.specs.Runs.{IsReadyIn, IsReadyOut};
 
 use crate::explaining::explain_fault;
-use dsp_arguments::Arguments;
+use dsp_arguments::{About, Arguments};
 use dsp_console::{CHANNELS, Config, Fault, PortIn, PortOut, Reading, Summary, run};
 use ialg::{Ialg, Named};
 use octet_ports::{Journal, JournalOutput, JournalReplies, Marks, Passing, pass_on_all};
@@ -182,6 +182,7 @@ fn serve_files<'p, M: Ialg + Named, R: Files + Print + Eprint + AllocGlobal>(
 /// were.
 fn serve_heard<M: Ialg + Named, R: Files + Print + Eprint + AllocGlobal>(
     rt: &R,
+    about: &About,
     arguments: &Arguments<'_>,
     listener: Listener<'_, '_, R>,
 ) -> Result<Summary, Fault>
@@ -199,7 +200,7 @@ fn serve_heard<M: Ialg + Named, R: Files + Print + Eprint + AllocGlobal>(
         && arguments.explain
         && let Ok(troubles) = troubles.try_borrow()
     {
-        explain_fault(rt, arguments, fault, &troubles);
+        explain_fault(rt, about, arguments, fault, &troubles);
     }
     ended
 }
@@ -208,12 +209,13 @@ fn serve_heard<M: Ialg + Named, R: Files + Print + Eprint + AllocGlobal>(
 #[inline(never)]
 fn serve_explained<M: Ialg + Named, R: Files + Print + Eprint + AllocGlobal>(
     rt: &R,
+    about: &About,
     arguments: &Arguments<'_>,
 ) -> Result<Summary, Fault>
     requires { 1 ≤ length arguments.now.ports.items }
 {
     let explainer = RefCell::new(Explainer::new(rt, arguments.script, arguments.ports.len() as u8));
-    serve_heard::<M, R>(rt, arguments, Some(&explainer))
+    serve_heard::<M, R>(rt, about, arguments, Some(&explainer))
 }
 
 /// Nobody listens. It has one lifetime in place of two: of a bare `None` nothing would show that the explainer outlives what listens.
@@ -224,13 +226,14 @@ fn nobody<'e, R: Eprint>() -> Listener<'e, 'e, R> {
 /// Serves the script over files, and tells why lines were refused where that is asked for.
 pub(crate) fn serve<M: Ialg + Named, R: Files + Print + Eprint + AllocGlobal>(
     rt: &R,
+    about: &About,
     arguments: &Arguments<'_>,
 ) -> Result<Summary, Fault>
     requires { 1 ≤ length arguments.now.ports.items }
 {
     if arguments.explain {
-        serve_explained::<M, R>(rt, arguments)
+        serve_explained::<M, R>(rt, about, arguments)
     } else {
-        serve_heard::<M, R>(rt, arguments, nobody())
+        serve_heard::<M, R>(rt, about, arguments, nobody())
     }
 }

@@ -1,7 +1,7 @@
 //! The program from its words to its exit status.
 use crate::serving::serve;
 use clap::error::ErrorKind;
-use dsp_arguments::{About, ArgFault, arguments_of};
+use dsp_arguments::{About, ArgFault, CONSOLE, arguments_of};
 use dsp_console::{Fault, outcome};
 use ialg::{Ialg, Named};
 use std::env::{self, Env};
@@ -12,14 +12,14 @@ use std::process::ExitCode;
 /// The status where the command line isn't taken.
 const USAGE: u8 = 2;
 
-/// Parses the words and serves the script: the exit status, and the line on the standard error.
+/// Parses the words and serves the script: the exit status, and the line on the standard error, which names `dsp_console`.
 pub fn answer<M: Ialg + Named, R: Files + Print + Eprint + AllocGlobal>(
     rt: &R,
     about: &About,
     words: &[&str],
 ) -> (u8, &'static str) {
     match arguments_of(rt.alloc(), about, words) {
-        Ok(arguments) => outcome(&serve::<M, R>(rt, &arguments)),
+        Ok(arguments) => outcome(&serve::<M, R>(rt, about, &arguments)),
         Err(ArgFault::Ports) => (USAGE, "dsp_console: ports come in pairs, 1 to 16"),
         Err(ArgFault::Clap(error)) => {
             if error.kind() == ErrorKind::OutOfMemory {
@@ -59,6 +59,14 @@ fn answer_words<M: Ialg + Named, R: Files + Print + Eprint + Env + AllocGlobal>(
     Ok(answer::<M, R>(rt, about, words.as_slice()))
 }
 
+/// Writes a line to the standard error, with the program's own name in place of `dsp_console` where it begins with that.
+fn tell<R: Eprint>(rt: &R, about: &About, line: &str) {
+    let _ = match line.strip_prefix(CONSOLE.name) {
+        Some(rest) => eprintln!(rt; "{}{rest}", about.name),
+        None => eprintln!(rt; "{line}"),
+    };
+}
+
 /// The console over these kinds: takes the words of the command line, serves SCRIPT over the pairs of files, writes replies to the
 /// standard output and what went wrong to the standard error, and gives the exit status.
 pub fn program<M: Ialg + Named, R: Files + Print + Eprint + Env + AllocGlobal>(
@@ -71,7 +79,7 @@ pub fn program<M: Ialg + Named, R: Files + Print + Eprint + Env + AllocGlobal>(
         Err(_) => (USAGE, "dsp_console: an argument isn't UTF-8"),
     };
     if !line.is_empty() {
-        let _ = eprintln!(rt; "{line}");
+        tell(rt, about, line);
     }
     ExitCode::from(status)
 }

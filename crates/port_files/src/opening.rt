@@ -21,13 +21,44 @@ pub enum OpenFault {
 
 /// The name of the standard output as a file.
 const STANDARD_OUTPUT: &str = "/dev/stdout";
+/// The bits of a mode that say what a file is, and what they are of a pipe, as `sys/stat.h` has them.
+const FORMAT: u32 = 0o170000;
+
+const PIPE: u32 = 0o010000;
+
+/// A pipe, by its device and its inode.
+#[derive(Clone, Copy)]
+struct Pipe {
+    device: u64,
+    inode: u64,
+}
+
+impl Pipe {
+    /// The pipe that a file is, if it is one.
+    fn of(metadata: &Metadata) -> Option<Pipe> {
+        if metadata.mode() & FORMAT != PIPE {
+            return None;
+        }
+        Some(Pipe {
+            device: metadata.dev(),
+            inode: metadata.ino(),
+        })
+    }
+
+    fn is(self, other: Pipe) -> bool {
+        self.device == other.device && self.inode == other.inode
+    }
+}
 
 /// The files of a run while they are opened. An OUT that is the same file as SCRIPT, an IN, another OUT or the standard output isn't
-/// opened, whatever their names: pipes, terminals and devices may be opened as often as one likes.
+/// opened, whatever their names: pipes, terminals and devices may be opened as often as one likes, but for an OUT that is the pipe
+/// to which the replies go, where nobody could tell samples from replies.
 #[derive(Drop)]
 pub struct RunFiles<'t, 'p, R> {
     rt: &'t R,
     roll: Roll,
+    /// The pipe to which the replies go, if it is one.
+    replies: Option<Pipe>,
     /// The paths of the OUTs that weren't there before.
     made: Vec<&'p str>,
     troubles: &'t RefCell<Troubles>,
@@ -39,11 +70,13 @@ impl<'t, 'p, R: Files + AllocGlobal> RunFiles<'t, 'p, R> {
         let mut files = RunFiles {
             rt,
             roll: Roll::new(rt.alloc()),
+            replies: None,
             made: Vec::new(rt.alloc()),
             troubles,
         };
         // Where it has no name, nothing is known of it.
         if let Ok(metadata) = fs::metadata(rt, STANDARD_OUTPUT) {
+            files.replies = Pipe::of(&metadata);
             files.enter(&metadata, Role::Replies)?;
         }
         Ok(files)
@@ -97,6 +130,16 @@ impl<'t, 'p, R: Files + AllocGlobal> RunFiles<'t, 'p, R> {
         }
     }
 
+    /// Refuses an OUT that is the pipe to which the replies go.
+    fn keep_apart(&self, metadata: &Metadata, role: Role) -> Result<(), OpenFault> {
+        match (self.replies, Pipe::of(metadata)) {
+            (Some(replies), Some(pipe)) if pipe.is(replies) => {
+                Err(self.refuse(role, Why::Same(Role::Replies)))
+            }
+            _ => Ok(()),
+        }
+    }
+
     /// Opens SCRIPT or an IN, and says whether it is a regular file.
     pub fn open_in(
         &mut self,
@@ -139,6 +182,7 @@ impl<'t, 'p, R: Files + AllocGlobal> RunFiles<'t, 'p, R> {
             .and_then(|file| Ok((file.metadata()?, file)));
         match opened {
             Ok((metadata, file)) => {
+                self.keep_apart(&metadata, role)?;
                 self.enter(&metadata, role)?;
                 let watch = self.watch(role);
                 let is_old = metadata.is_file();

@@ -34,6 +34,16 @@ def need(*names: str) -> None:
     raise MissingPackage(missing[0])
 
 
+def write_whole(path: Path, text: str) -> None:
+    """Writes a file that is whole or stays as it was."""
+    part = path.with_name(f".{path.name}.{os.getpid()}.part")
+    try:
+        part.write_text(text, encoding="utf-8")
+        os.replace(part, path)
+    finally:
+        part.unlink(missing_ok=True)
+
+
 def ended(name: str, body: Callable[[], int]) -> int:
     """Runs a command's body. An error of this package, or of a file, is one line on the standard error and its exit status."""
     try:

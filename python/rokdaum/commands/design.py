@@ -14,25 +14,34 @@ from .common import ended, need
 from .run import version
 
 if TYPE_CHECKING:
-    from ..design import Biquads, Fir, Tones
+    from ..design import Biquads, Digits, Fir, Gain, Level, Tones
 
-    Made = Union[Biquads, Fir, Tones]
+    Made = Union[Biquads, Fir, Tones, Gain, Level, Digits]
 
 NAME = "dsp_design"
+Subparsers = argparse._SubParsersAction  # the type has no public name
 EXAMPLE = """\
 The lines go to the standard output, the response and what saturates to the standard error:
   dsp_design band 300 3400 > phone.txt && echo 'feed 0 all' >> phone.txt && dsp_run phone.txt in.wav out.wav
+Your own design, as scipy's output='sos' or numpy.savetxt has it:
+  dsp_design sos sections.txt
 """
 
 
-def common_options() -> argparse.ArgumentParser:
-    """The options of each filter."""
+def place_options() -> argparse.ArgumentParser:
+    """The options of all: where the instances go."""
     made = argparse.ArgumentParser(add_help=False, allow_abbrev=False)
-    made.add_argument("--rate", type=float, default=8000.0, metavar="HZ", help="samples a second (8000)")
     made.add_argument("--first", type=int, default=0, metavar="I", help="the first instance (0)")
     made.add_argument("--group", type=int, default=0, metavar="G", help="the scratch group of the first section; others take those behind it (0)")
     made.add_argument("--share", action="store_true", help="all sections in one group: less memory, and an activation for each feed")
     made.add_argument("--channel", type=int, default=0, metavar="C", help="the channel, or the first of several tones (0)")
+    return made
+
+
+def common_options() -> argparse.ArgumentParser:
+    """The options of each filter and tone."""
+    made = argparse.ArgumentParser(add_help=False, parents=[place_options()], allow_abbrev=False)
+    made.add_argument("--rate", type=float, default=8000.0, metavar="HZ", help="samples a second (8000)")
     return made
 
 
@@ -48,7 +57,15 @@ def parser() -> argparse.ArgumentParser:
     """The command line."""
     made = argparse.ArgumentParser(prog=NAME, description=__doc__.split(": ", 1)[1], epilog=EXAMPLE, formatter_class=argparse.RawDescriptionHelpFormatter, allow_abbrev=False)
     made.add_argument("--version", action="version", version=f"{NAME} {version()}")
-    which, filters = made.add_subparsers(dest="what", required=True, metavar="WHAT"), filter_options()
+    which = made.add_subparsers(dest="what", required=True, metavar="WHAT")
+    add_filters(which, filter_options())
+    add_own(which, filter_options())
+    add_others(which)
+    return made
+
+
+def add_filters(which: Subparsers, filters: argparse.ArgumentParser) -> None:
+    """What is designed from frequencies."""
     for name, what, count in (("low", "a low pass of second-order sections", 1), ("high", "a high pass", 1), ("band", "a band pass: LOW HIGH", 2)):
         one = which.add_parser(name, help=what, parents=[filters], allow_abbrev=False)
         one.add_argument("edges", type=float, nargs=count, metavar="HZ", help="where the gain is 3 dB less, or where the ripple ends")
@@ -65,11 +82,28 @@ def parser() -> argparse.ArgumentParser:
     one.add_argument("factor", type=int, metavar="M", help="1 to 16")
     one.add_argument("--taps", type=int, default=64, metavar="T", help="coefficients, 1 to 64 (64)")
     one.add_argument("--edge", type=float, metavar="HZ", help="where the gain is 6 dB less (0.4 of the new rate)")
-    one = which.add_parser("tone", help="detectors, a channel each", parents=[common_options()], allow_abbrev=False)
+
+
+def add_own(which: Subparsers, filters: argparse.ArgumentParser) -> None:
+    """What takes a design of the user's own."""
+    for name, what in (("sos", "your own second-order sections, six numbers a row as scipy's output='sos' has them"), ("taps", "your own coefficients of a FIR, that of the newest sample first")):
+        one = which.add_parser(name, help=what, parents=[filters], allow_abbrev=False)
+        one.add_argument("file", metavar="FILE", help=".npy, or text with a row a line; - is the standard input")
+
+
+def add_others(which: Subparsers) -> None:
+    """What has no response."""
+    one = which.add_parser("tone", help="detectors, a channel each, with one shift for all", parents=[common_options()], allow_abbrev=False)
     one.add_argument("frequencies", type=float, nargs="+", metavar="HZ")
     one.add_argument("--frame", type=int, default=205, metavar="N", help="samples of a frame, 1 to 1024 (205)")
-    one.add_argument("--shift", type=int, metavar="S", help="samples are divided by 2 to the S; else the least for which no full-scale tone saturates")
-    return made
+    one.add_argument("--shift", type=int, metavar="S", help="samples are divided by 2 to the S; else the least for which no full-scale tone of these frequencies saturates")
+    one = which.add_parser("gain", help="a gain in dB (gateway_console)", parents=[place_options()], allow_abbrev=False)
+    one.add_argument("decibels", type=float, metavar="DB", help="up to 18.06")
+    one = which.add_parser("level", help="a level meter (gateway_console)", parents=[place_options()], allow_abbrev=False)
+    one.add_argument("--frame", type=int, default=160, metavar="N", help="samples of a frame, 1 to 1024 (160)")
+    one.add_argument("--shift", type=int, metavar="S", help="samples are shifted to the right by so many bits; else the least for which no frame saturates")
+    one = which.add_parser("dtmf", help="a detector of dialled digits, for 8,000 samples a second (gateway_console)", parents=[place_options()], allow_abbrev=False)
+    one.add_argument("--set", choices=("a", "b"), default="a", help="a finds tokens of 40 ms, b takes none of 23 ms for a digit (a)")
 
 
 def made_of(given: argparse.Namespace) -> Made:
@@ -82,6 +116,16 @@ def made_of(given: argparse.Namespace) -> Made:
         return design.notch(given.frequency, given.width, given.rate, given.scale)
     if given.what == "fir":
         return design.fir(given.kind, given.edges, given.taps, given.rate, given.scale)
+    if given.what == "sos":
+        return design.biquads(design.numbers_of(given.file, 6), given.rate, given.scale)
+    if given.what == "taps":
+        return design.taps(design.numbers_of(given.file, 1), given.rate, given.scale)
+    if given.what == "gain":
+        return design.gain(given.decibels)
+    if given.what == "level":
+        return design.level(given.frame, given.shift)
+    if given.what == "dtmf":
+        return design.dtmf(given.set)
     if given.what == "decim":
         return design.decim(given.factor, given.taps, given.edge, given.rate, given.scale)
     return design.band_of({"low": "lowpass", "high": "highpass", "band": "bandpass"}[given.what], given.edges, given.order, given.rate, given.ripple, given.scale)
@@ -98,17 +142,23 @@ def points(given: argparse.Namespace) -> list[float]:
 
 def tell(given: argparse.Namespace, made: Made) -> None:
     """Writes the response, and what saturates, to the standard error."""
-    from ..design import Tones, decibels
+    from ..design import Biquads, Digits, Fir, Gain, Level, Tones, decibels
 
+    told: list[str] = []
     if isinstance(made, Tones):
-        print("      Hz   k is of   width  shift  level at 1000, at full scale", file=sys.stderr)
-        for one in made.detectors:
-            print(f"{one.asked:8.1f}  {one.frequency:8.1f}  {one.width:6.1f}  {one.shift:5}  {one.level(1000):13.1f}  {min(32767.0, one.level(32767)):12.1f}", file=sys.stderr)
-    else:
+        told = ["      Hz   k is of   width  shift  level at 1000, at full scale"]
+        told += [f"{one.asked:8.1f}  {one.frequency:8.1f}  {one.width:6.1f}  {one.shift:5}  {one.level(1000):13.1f}  {min(32767.0, one.level(32767)):12.1f}" for one in made.detectors]
+    elif isinstance(made, (Biquads, Fir)):
         where = points(given)
-        print("      Hz  words dB  designed dB", file=sys.stderr)
-        for frequency, words, designed in zip(where, decibels(made.response(where)), decibels(made.designed_response(where))):
-            print(f"{frequency:8.1f}  {words:8.2f}  {designed:11.2f}", file=sys.stderr)
+        told = ["      Hz  words dB  designed dB"]
+        told += [f"{at:8.1f}  {words:8.2f}  {designed:11.2f}" for at, words, designed in zip(where, decibels(made.response(where)), decibels(made.designed_response(where)))]
+    elif isinstance(made, Gain):
+        told = [f"the word has {made.decibels:.2f} dB of {made.asked:g} dB; what is too loud behind it saturates"]
+    elif isinstance(made, Level):
+        told = [f"a value for each {made.frame} samples: a root of the mean square of x has (x / {2**made.shift})^2 * {made.frame} / 32768"]
+    elif isinstance(made, Digits):
+        told = [f"a code for each {made.words[0]} samples: a digit counts once {made.frames_on} frames in a row have its code, and again once {made.frames_off} haven't"]
+    print("\n".join(told), file=sys.stderr)
     for text in made.warnings():
         print(f"{NAME}: {text}", file=sys.stderr)
 
@@ -129,10 +179,10 @@ def serve(given: argparse.Namespace) -> int:
         raise RokdaumError(f"a line has more than 1,024 bytes: {longest[0][:60]}..")
     if getattr(given, "plot", None):
         from .. import plot
-        from ..design import Tones
+        from ..design import Biquads, Fir
 
-        assert not isinstance(made, Tones)  # `tone` has no --plot
-        plot.save(plot.response(made), given.plot)
+        assert isinstance(made, (Biquads, Fir))  # nothing else has --plot
+        plot.save(plot.design(made), given.plot)
     print("\n".join(lines))
     sys.stdout.flush()
     tell(given, made)

@@ -1,5 +1,5 @@
 # SPDX-License-Identifier: Apache-2.0
-"""dsp_map: the memory maps of a run, as text, as a picture or as JSON."""
+"""dsp_map: the memory maps of a run, as text, as a page, as a picture or as JSON."""
 
 from __future__ import annotations
 
@@ -10,12 +10,13 @@ from pathlib import Path
 
 from ..errors import CantRead, NotAMap
 from ..maps import SPACES, WIDTH, History, from_replies, from_run, text_of
-from .common import ended, need
+from .common import ended, need, write_whole
 from .run import version
 
 NAME = "dsp_map"
 EXAMPLE = """\
   dsp_run --history h.json SCRIPT IN OUT && dsp_map h.json               who is where behind each line, and who is active
+  dsp_map h.json --html h.html                                           the same as a page for a browser
   dsp_console SCRIPT IN OUT | dsp_map --script SCRIPT                    what the script's own map and stat lines say
   dsp_console --daram 4112 SCRIPT IN OUT | dsp_map --daram 4112          the maps among replies, taken for maps of daram
 """
@@ -31,6 +32,8 @@ def parser() -> argparse.ArgumentParser:
     made.add_argument("--space", choices=SPACES, help="this space alone")
     made.add_argument("--width", type=int, default=WIDTH, metavar="N", help="letters of a bar (64)")
     made.add_argument("--json", action="store_true", help="JSON in place of text")
+    made.add_argument("--html", type=Path, metavar="FILE", help="a page for a browser, which steps through the run; takes no other file and no server")
+    made.add_argument("--title", metavar="TEXT", help="the title of the page (the name of FILE)")
     made.add_argument("--svg", type=Path, metavar="FILE", help="draw a space over the run (.svg, .png, .pdf); takes matplotlib")
     made.add_argument("--version", action="version", version=f"{NAME} {version()}")
     return made
@@ -70,7 +73,11 @@ def serve(given: argparse.Namespace) -> int:
     spaces = [given.space] if given.space else known
     if not known or given.space and given.space not in known:
         raise NotAMap(f"no map of {given.space or 'any space'} is there: `map SPACE` in the script asks for one, and dsp_run --history for all")
-    if given.svg:
+    if given.html:
+        from .. import page
+
+        write_whole(given.html, page.html_of(history, given.title or Path(given.file).name))
+    elif given.svg:
         from .. import plot
 
         plot.save(plot.memory(history, spaces[0]), given.svg)

@@ -12,10 +12,11 @@ from collections.abc import Callable, Sequence
 from pathlib import Path
 from typing import TextIO
 
-from ..errors import CantWrite, SameFile
-from ..ports import Settings, pairs_of
+from ..errors import CantWrite, OutOfRange, SameFile
+from ..ports import STANDARD_IN, Pair, Settings, is_standard_output, pairs_of
 from ..script import DEFAULT_RATE, Answer, Result, parse, run
-from .common import ended
+from ..sounds import Named, form_of
+from .common import ended, need, write_whole
 
 NAME = "dsp_run"
 TERMINATED = 128 + signal.SIGTERM
@@ -45,6 +46,9 @@ class Progress:
         pace = fed / max(now - self.began, 1e-9)
         left = max(total - fed, 0) / max(pace, 1e-9)
         text = f"{100 * fed // max(total, 1):3} %, {fed:,} of {total:,} samples, {pace:,.0f} a second, {int(left) // 60}:{int(left) % 60:02} left"
+        if fed > total:
+            # A stream has no length.
+            text = f"{fed:,} samples, {pace:,.0f} a second"
         self.stream.write("\r" + text.ljust(self.width))
         self.stream.flush()
         self.width = len(text)
@@ -93,7 +97,7 @@ def parser() -> argparse.ArgumentParser:
         prog=NAME, usage=USAGE, description=__doc__.split(": ", 1)[1], epilog=EPILOG, formatter_class=argparse.RawDescriptionHelpFormatter, allow_abbrev=False
     )
     made.add_argument("script", metavar="SCRIPT", help="the file of commands; - is the standard input")
-    made.add_argument("ports", metavar="IN OUT", nargs="+", help="1 to 16 pairs of files; a name that ends in .wav is a WAV file of one channel of 16 bits")
+    made.add_argument("ports", metavar="IN OUT", nargs="+", help="1 to 16 pairs of files; .wav, .flac, .au and .aiff are files of sound (call.wav:1 is the second channel), .ul and .al are mu-law and A-law codes, others are 16-bit words; - is the standard input or output, and replies go to the standard error then")
     for name, value, what in (
         ("daram", "W", "words of the space daram, a multiple of 4 up to 65536"),
         ("saram", "W", "words of the space saram"),
@@ -106,6 +110,7 @@ def parser() -> argparse.ArgumentParser:
     made.add_argument("--strict", action="store_true", help="stop at the first refused line, and leave each OUT as it was")
     made.add_argument("--rate", type=float, default=DEFAULT_RATE, metavar="HZ", help="samples a second of an IN that is no WAV file (8000), for an OUT that is one")
     made.add_argument("--history", type=Path, metavar="FILE", help="ask behind each line who is where, and write it for dsp_map")
+    made.add_argument("--spectrogram", type=Path, metavar="FILE", help="draw what went in beside what came out (.png, .svg, .pdf); takes matplotlib")
     made.add_argument("--program", metavar="P", help="the words that start dsp_console; else those of DSP_CONSOLE")
     made.add_argument("--quiet", action="store_true", help="no progress and no notes; refused lines are still told")
     made.add_argument("--version", action="version", version=f"{NAME} {version()}")
@@ -125,14 +130,30 @@ def main(words: Sequence[str] | None = None) -> int:
     return ended(NAME, lambda: serve(given))
 
 
-def look_at_history(given: argparse.Namespace) -> None:
-    """Refuses a file for the history that the run itself reads or writes, or that can't be made."""
-    if given.history is None:
+def look_at(target: Path | None, what: str, given: argparse.Namespace) -> None:
+    """Refuses a file for the history or a picture that the run itself reads or writes, or that can't be made."""
+    if target is None:
         return
-    if given.history.is_dir() or not given.history.parent.is_dir():
-        raise CantWrite(f"{given.history}: {'a folder' if given.history.is_dir() else f'there is no folder {given.history.parent}'}")
-    if os.path.realpath(given.history) in {os.path.realpath(path) for path in [given.script, *given.ports]}:
-        raise SameFile(f"{given.history} is a file of the run: name another one for the history")
+    if target.is_dir() or not target.parent.is_dir():
+        raise CantWrite(f"{target}: {'a folder' if target.is_dir() else f'there is no folder {target.parent}'}")
+    if os.path.realpath(target) in {os.path.realpath(path) for path in [given.script, *given.ports]}:
+        raise SameFile(f"{target} is a file of the run: name another one for the {what}")
+
+
+def draw_sounds(given: argparse.Namespace, pairs: Sequence[Pair], result: Result) -> None:
+    """Draws what went in and what came out of each channel that has samples. Raises OutOfRange where none has."""
+    from .. import plot, samples
+
+    rows = []
+    for channel, (pair, rate) in enumerate(zip(pairs, result.rates)):
+        if (given.in8 | given.out8) >> channel & 1 or not (Named.of(pair.source).path.is_file() and pair.target.is_file()):
+            continue
+        (heard, own), (made, _) = samples.read(pair.source), samples.read(pair.target)
+        if min(len(heard), len(made)) >= plot.FEWEST:
+            rows.append([(pair.source.name, heard, own or given.rate), (pair.target.name, made, rate)])
+    if not rows:
+        raise OutOfRange(f"no channel has {plot.FEWEST} samples of 16 bits on both sides, of which a spectrogram is made")
+    plot.save(plot.spectrograms(rows), given.spectrogram)
 
 
 def serve(given: argparse.Namespace) -> int:
@@ -140,11 +161,20 @@ def serve(given: argparse.Namespace) -> int:
     # A run that is ended from outside removes what it has begun, too.
     signal.signal(signal.SIGTERM, lambda *_: sys.exit(TERMINATED))
     pairs = pairs_of(given.ports)
-    look_at_history(given)
+    # Before anything is read: the command may start anew under another Python.
+    needed = form_of([name for pair in pairs for name in (pair.source, pair.target)])
+    if needed or given.spectrogram:
+        need(*needed, *(["numpy", "matplotlib"] if given.spectrogram else []))
+    look_at(given.history, "history", given)
+    look_at(given.spectrogram, "spectrogram", given)
+    if given.script == "-" and any(str(pair.source) in STANDARD_IN for pair in pairs):
+        raise OutOfRange("the standard input is SCRIPT or an IN, and not both")
     settings = Settings(given.daram, given.saram, given.external, given.poison, given.in8, given.out8)
     script = parse(sys.stdin.buffer.read().decode("utf-8", "surrogateescape"), "-") if given.script == "-" else given.script
     progress = Progress(sys.stderr) if sys.stderr.isatty() and not given.quiet else None
-    teller = Teller(sys.stdout, sys.stderr, progress)
+    # Samples and replies never share a stream.
+    replies = sys.stderr if any(is_standard_output(pair.target) for pair in pairs) else sys.stdout
+    teller = Teller(replies, sys.stderr, progress)
     try:
         result = run(
             script, pairs, settings, program=given.program, strict=given.strict, rate=given.rate, watch=progress, tell=teller, history=given.history is not None
@@ -155,9 +185,9 @@ def serve(given: argparse.Namespace) -> int:
         teller.count()
     sys.stdout.flush()
     if given.history and result.history:
-        part = given.history.with_name(f".{given.history.name}.{os.getpid()}.part")
-        part.write_text(result.history.to_json() + "\n", encoding="utf-8")
-        os.replace(part, given.history)
+        write_whole(given.history, result.history.to_json() + "\n")
+    if given.spectrogram and not result.stopped:
+        draw_sounds(given, pairs, result)
     tell_end(result, given.quiet)
     return result.status
 
