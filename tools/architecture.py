@@ -71,7 +71,7 @@ PLACES: dict[str, Place] = {
     "port_files": Place(RUNS, 10, "opens the files"),
     "dsp_program": Place(RUNS, 12, "the program, any kinds"),
     "dsp_console_main": Place(RUNS, 13, "five kinds"),
-    "gateway_console": Place(RUNS, 13, "eight kinds"),
+    "gateway_console": Place(RUNS, 13, "eleven kinds"),
     "dsp_library": Place(RUNS, 13, "the library for C"),
     # algorithms
     "basic_op": Place(KINDS, 0, "G.191's operators"),

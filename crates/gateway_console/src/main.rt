@@ -6,7 +6,7 @@ use dsp_program::{About, program};
 use gateway_kinds::GatewayKind;
 use std::process::ExitCode;
 
-/// The console over the five kinds, gains, meters and detectors of digits.
+/// The console over all eleven kinds.
 const GATEWAY: About = About {
     name: "gateway_console",
     usage: "gateway_console [OPTIONS] <SCRIPT> <IN OUT> [IN OUT]...",
