@@ -5,6 +5,8 @@
 #                                                    and examples in place
 #     make uninstall [PREFIX=/usr/local] [DESTDIR=]  takes away what was installed there, and nothing else
 #     make dist                                      makes out/rokdaum-VERSION-x86_64-linux.tar.gz (in the repository)
+#     make deb                                       makes Debian packages of it, in out/deb (in the repository)
+#     make wheel                                     makes a wheel of the Python package with the library, in out (in the repository)
 #     make check                                     tests everything (in the repository), or runs the examples (in a release)
 #     make help                                      prints these lines
 #
@@ -17,7 +19,7 @@ override DESTDIR := $(abspath $(DESTDIR))
 
 root = $(DESTDIR)$(PREFIX)
 doc = $(root)/share/doc/rokdaum
-man = $(root)/share/man/man1
+man = $(root)/share/man
 completion = $(root)/share/bash-completion/completions
 # The Python package stands here, and is linked to from where python3 looks below PREFIX, if it looks anywhere there.
 package = $(root)/share/rokdaum
@@ -29,7 +31,7 @@ soname = librokdaum.so.$(firstword $(subst ., ,$(version)))
 programs = dsp_console gateway_console
 commands = dsp_run dsp_design dsp_map
 
-.PHONY: all help install uninstall dist check
+.PHONY: all help install uninstall dist deb wheel check
 ifneq ($(wildcard tools/release.py),)
 all:
 	@command -v python3 > /dev/null || { echo 'make: python3 is missing here: apt-get install python3' >&2; exit 69; }
@@ -53,6 +55,12 @@ install:
 dist:
 	tools/release.py $(CHANGED)
 
+deb:
+	tools/deb.py $(CHANGED)
+
+wheel:
+	tools/wheel.py $(CHANGED)
+
 check:
 	./check
 
@@ -62,7 +70,8 @@ else
 install:
 	@sha256sum --quiet --check SHA256SUMS
 	for one in $(programs); do install -D -m 755 $$one '$(root)/bin/'$$one || exit 1; done
-	install -D -m 644 -t '$(man)' docs/man/*.1
+	install -D -m 644 -t '$(man)/man1' docs/man/*.1
+	install -D -m 644 -t '$(man)/man3' docs/man/*.3
 	install -D -m 644 docs/completion/dsp_console '$(completion)/dsp_console'
 	ln -sf dsp_console '$(completion)/gateway_console'
 	install -D -m 644 c/rokdaum.h '$(root)/include/rokdaum.h'
@@ -72,6 +81,7 @@ install:
 	ln -sf $(soname) '$(root)/lib/librokdaum.so'
 	mkdir -p '$(root)/lib/pkgconfig'
 	sed -e 's|^prefix=.*|prefix=$(PREFIX)|' -e 's|^includedir=.*|includedir=$${prefix}/include|' lib/pkgconfig/rokdaum.pc > '$(root)/lib/pkgconfig/rokdaum.pc'
+	install -D -m 644 -t '$(root)/lib/cmake/rokdaum' lib/cmake/rokdaum/*.cmake
 	@sed 's/^[0-9a-f]*  //' SHA256SUMS | while read -r file; do \
 	    case $$file in dsp_console | gateway_console | Makefile | docs/man/* | docs/completion/* | lib/* | c/rokdaum.h) continue ;; \
 	        python/*) to='$(package)' ;; *) to='$(doc)' ;; esac; \
@@ -85,8 +95,8 @@ install:
 	ln -sfn ../../rokdaum/python '$(doc)/python'
 	mkdir -p '$(doc)/c' && ln -sf ../../../../include/rokdaum.h '$(doc)/c/rokdaum.h'
 
-dist:
-	@echo 'this is a release; make dist makes one in the repository' >&2; exit 1
+dist deb wheel:
+	@echo 'this is a release; make $@ makes one in the repository' >&2; exit 1
 
 check:
 	examples/check
@@ -98,8 +108,8 @@ uninstall:
 	@sed 's/^[0-9a-f]*  //' '$(doc)/SHA256SUMS' | while read -r file; do \
 	    case $$file in \
 	        python/*) rm -f '$(package)'/"$$file" ;; \
-	        docs/man/*) rm -f '$(man)'/"$${file#docs/man/}" ;; \
-	        lib/pkgconfig/rokdaum.pc | lib/librokdaum.a | lib/librokdaum.so.*) rm -f '$(root)'/"$$file" ;; \
+	        docs/man/*) rm -f '$(man)'/man"$${file##*.}/$${file#docs/man/}" ;; \
+	        lib/pkgconfig/rokdaum.pc | lib/cmake/rokdaum/*.cmake | lib/librokdaum.a | lib/librokdaum.so.*) rm -f '$(root)'/"$$file" ;; \
 	        *) rm -f '$(doc)'/"$$file" ;; \
 	    esac; \
 	done
@@ -107,4 +117,4 @@ uninstall:
 	for one in $(programs) $(commands); do rm -f '$(root)/bin/'$$one; done
 	@[ -z '$(PYTHONDIR)' ] || [ ! -L '$(DESTDIR)$(PYTHONDIR)/rokdaum' ] || rm '$(DESTDIR)$(PYTHONDIR)/rokdaum'
 	@find '$(package)' -depth -name __pycache__ -exec rm -rf {} +
-	@find '$(doc)' '$(package)' -depth -type d -exec rmdir --ignore-fail-on-non-empty {} +
+	@find '$(doc)' '$(package)' '$(root)/lib/cmake/rokdaum' -depth -type d -exec rmdir --ignore-fail-on-non-empty {} +

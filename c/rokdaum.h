@@ -68,7 +68,9 @@ typedef enum rokdaum_kind {
     ROKDAUM_ECHO = 8,   /* line echo canceller over pairs, the far end's sample first: 1 to 256 coefficients, the step in Q15, the share in
                            Q15 of the far end from which on the near end talks, and the pairs for which it then doesn't learn */
     ROKDAUM_ADPCM = 9,  /* G.726: 16, 24, 32 or 40 kbit/s, then 0 to encode or 1 to decode */
-    ROKDAUM_SIGNAL = 10 /* tones with a cadence: k1 s1 k2 s2, the samples on and off, the number of cycles or 0 */
+    ROKDAUM_SIGNAL = 10, /* tones with a cadence: k1 s1 k2 s2, the samples on and off, the number of cycles or 0 */
+    ROKDAUM_ACTIVITY = 11 /* voice activity, 1 or 0 for each frame: a frame of 1 to 1,024 samples, then 0 to 15 each the shift of squares, the
+                             margin over the floor and its rise, both as powers of 2; the least floor, and the frames of the hangover */
 } rokdaum_kind;
 
 /* Parameters of a detector of digits, at 8,000 samples a second. */

@@ -5,6 +5,9 @@
 Samples are words of 16 bits, the low octet first, at 8000 per second; codes of a companding law are octets.
 """
 
+from __future__ import annotations
+
+from collections.abc import Sequence
 from math import cos, pi, sin
 from pathlib import Path
 from struct import pack
@@ -13,27 +16,27 @@ HERE = Path(__file__).parent
 RATE = 8000
 
 
-def write(name, samples):
+def write(name: str, samples: Sequence[int]) -> None:
     (HERE / name).write_bytes(pack(f"<{len(samples)}h", *samples))
 
 
-def mu_law(sample):
+def mu_law(sample: int) -> int:
     """The mu-law code of a sample (G.711, table 2), as it stands in a file of such codes."""
     magnitude = min(abs(sample) >> 2, 8158) + 33
     segment = magnitude.bit_length() - 6
     return ~((0x80 if sample < 0 else 0) | segment << 4 | (magnitude >> segment + 1) & 15) & 0xFF
 
 
-def tone(frequency, level, count):
+def tone(frequency: float, level: float, count: int) -> list[int]:
     """A sine of this peak value."""
     return [round(level * sin(2 * pi * frequency * n / RATE)) for n in range(count)]
 
 
-def mixed(*parts):
+def mixed(*parts: Sequence[int]) -> list[int]:
     return [sum(samples) for samples in zip(*parts)]
 
 
-def low_pass(taps, cutoff):
+def low_pass(taps: int, cutoff: float) -> list[int]:
     """A windowed sinc in Q15 with a gain of 1 at 0 Hz, its cutoff in Hz."""
     middle = (taps - 1) / 2
     x = [2 * pi * cutoff / RATE * (n - middle) for n in range(taps)]
@@ -42,7 +45,7 @@ def low_pass(taps, cutoff):
     return [round(32768 * v / sum(values)) for v in values]
 
 
-def goertzel(frequency, rate):
+def goertzel(frequency: float, rate: float) -> int:
     """The k of a detector: the cosine in Q15."""
     return round(32768 * cos(2 * pi * frequency / rate))
 

@@ -26,25 +26,32 @@ struct passes passes_of(const struct setup *setup)
 {
     const struct setup_chain *first = &setup->chain[0];
     if (first->is_listener)
-        return (struct passes){first->takes, first->takes, 1, TRUE};
-    return (struct passes){first->takes, first->gives, first->factor, FALSE};
+        return (struct passes){first->takes, first->takes, 1, first->ends, TRUE};
+    return (struct passes){first->takes, first->gives, first->factor, first->ends, FALSE};
+}
+
+guint passes_lines(const struct passes *passes, const struct format *in)
+{
+    return in->channels / passes->ends;
 }
 
 gboolean passes_fit(const struct passes *passes, const struct format *in, const struct format *out)
 {
-    return in->codes == passes->takes && out->codes == passes->gives && in->channels == out->channels && in->rate % passes->factor == 0 && in->rate / passes->factor == out->rate;
+    gboolean are_codes = in->codes == passes->takes && out->codes == passes->gives;
+    gboolean are_lines = in->channels % passes->ends == 0 && out->channels == (passes->only_listens ? in->channels : passes_lines(passes, in));
+    return are_codes && are_lines && in->rate % passes->factor == 0 && in->rate / passes->factor == out->rate;
 }
 
-/* ---- Rates ---- */
+/* ---- Rates, and numbers of channels ---- */
 
-/* A rate divided by a factor, where `down`, or else times it. Whether there is one. */
+/* A number divided by a factor, where `down`, or else times it. Whether there is one. */
 static gboolean scale_int(const GValue *from, GValue *to, gint factor, gboolean down)
 {
-    gint rate = g_value_get_int(from);
-    if (down ? rate % factor != 0 : rate > G_MAXINT / factor)
+    gint number = g_value_get_int(from);
+    if (down ? number % factor != 0 : number > G_MAXINT / factor)
         return FALSE;
     g_value_init(to, G_TYPE_INT);
-    g_value_set_int(to, down ? rate / factor : rate * factor);
+    g_value_set_int(to, down ? number / factor : number * factor);
     return TRUE;
 }
 
@@ -63,7 +70,7 @@ static gboolean scale_range(const GValue *from, GValue *to, gint factor, gboolea
     return TRUE;
 }
 
-static gboolean scale_rate(const GValue *from, GValue *to, gint factor, gboolean down)
+static gboolean scale(const GValue *from, GValue *to, gint factor, gboolean down)
 {
     if (G_VALUE_HOLDS_INT(from))
         return scale_int(from, to, factor, down);
@@ -74,7 +81,7 @@ static gboolean scale_rate(const GValue *from, GValue *to, gint factor, gboolean
     gst_value_list_init(to, gst_value_list_get_size(from));
     for (guint at = 0; at < gst_value_list_get_size(from); at++) {
         GValue one = G_VALUE_INIT;
-        if (scale_rate(gst_value_list_get_value(from, at), &one, factor, down))
+        if (scale(gst_value_list_get_value(from, at), &one, factor, down))
             gst_value_list_append_and_take_value(to, &one);
     }
     if (gst_value_list_get_size(to))
@@ -94,15 +101,34 @@ static void become_raw(GstStructure *to)
         gst_structure_set(to, "channel-mask", GST_TYPE_BITMASK, G_GUINT64_CONSTANT(0), NULL);
 }
 
+/* Puts the other pad's number of channels into `to`. Whether there is one. */
+static gboolean turn_channels(const struct passes *passes, const GstStructure *from, gboolean down, GstStructure *to)
+{
+    GValue channels = G_VALUE_INIT;
+    if (passes->ends == 1 || passes->only_listens)
+        return TRUE;
+    if (!scale(gst_structure_get_value(from, "channels"), &channels, (gint)passes->ends, down))
+        return FALSE;
+    gst_structure_take_value(to, "channels", &channels);
+    gst_structure_remove_field(to, "channel-mask");
+    if (down && gst_structure_has_name(to, media_of(CODES_NONE)))
+        become_raw(to);
+    return TRUE;
+}
+
 /* The other pad's structure, or null where this one can't be. */
 static GstStructure *turn(const struct passes *passes, const GstStructure *from, gboolean down)
 {
     enum setup_codes here = down ? passes->takes : passes->gives, there = down ? passes->gives : passes->takes;
     GValue rate = G_VALUE_INIT;
-    if (!gst_structure_has_name(from, media_of(here)) || !scale_rate(gst_structure_get_value(from, "rate"), &rate, (gint)passes->factor, down))
+    if (!gst_structure_has_name(from, media_of(here)) || !scale(gst_structure_get_value(from, "rate"), &rate, (gint)passes->factor, down))
         return NULL;
     GstStructure *to = gst_structure_copy(from);
     gst_structure_take_value(to, "rate", &rate);
+    if (!turn_channels(passes, from, down, to)) {
+        gst_structure_free(to);
+        return NULL;
+    }
     if (here != there) {
         gst_structure_set_name(to, media_of(there));
         gst_structure_remove_fields(to, "format", "layout", "channel-mask", NULL);

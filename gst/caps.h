@@ -27,15 +27,19 @@ gboolean format_of(const GstCaps *caps, struct format *format);
 /* The octets of a sample of each channel. */
 gsize frame_bytes(const struct format *format);
 
-/* What a setup does to the audio that passes it. One that only listens lets it pass as it is. */
+/* What a setup does to the audio that passes it. One that only listens lets it pass as it is. A line takes `ends` channels of the audio and
+ * gives one of them, and all of them where it only listens. */
 struct passes {
     enum setup_codes takes, gives;
-    guint factor;
+    guint factor, ends;
     gboolean only_listens;
 };
 struct passes passes_of(const struct setup *setup);
 
-/* Whether a line goes from one format to the other. */
+/* The lines that audio of this format is. */
+guint passes_lines(const struct passes *passes, const struct format *in);
+
+/* Whether whole lines go from one format to the other. */
 gboolean passes_fit(const struct passes *passes, const struct format *in, const struct format *out);
 
 /* The caps of the other pad, where `direction` is that of the pad that has these. */

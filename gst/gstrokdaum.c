@@ -4,7 +4,7 @@
  *
  *     gst-launch-1.0 filesrc location=line.wav ! wavparse ! rokdaum setup="create 0 fir 0 16384 16384; chain 0 0" ! ..
  *
- * Each channel of the audio gets a line of its own, up to sixteen in a host. Elements that name the same host share it, and with it its
+ * Each channel of the audio gets a line of its own, and each two where the line cancels echo, up to sixteen in a host. Elements that name the same host share it, and with it its
  * scratch memory. docs/GSTREAMER.md tells more.
  *
  * Two locks, always taken in this order: the element's, held for a buffer, guards its settings and lines; the host's, held for a call.
@@ -180,8 +180,8 @@ static gboolean set_caps(GstBaseTransform *base, GstCaps *in, GstCaps *out)
     if (is_good)
         passes = passes_of(self->wanted);
     is_good = is_good && passes_fit(&passes, &takes, &gives); /* a setup may have been changed since the caps were asked for */
-    if (is_good && (!self->made || self->count != takes.channels || g_atomic_int_get(&self->renewed)))
-        is_good = renew_lines(self, takes.channels, &error);
+    if (is_good && (!self->made || self->count != passes_lines(&passes, &takes) || g_atomic_int_get(&self->renewed)))
+        is_good = renew_lines(self, passes_lines(&passes, &takes), &error);
     else if (is_good && self->in.rate != takes.rate)
         reset_lines(self);
     if (is_good) {
@@ -230,18 +230,16 @@ static void before_transform(GstBaseTransform *base, GstBuffer *buffer)
 
 /* ---- Samples ---- */
 
-/* The samples of one line of a block: where they stand, or `room` with a copy. */
-static const gint16 *load(const struct format *format, const guint8 *in, guint line, guint frames, gint16 *room)
+/* The words of one line of a block, which takes `ends` channels of the audio: where they stand, or `room` with a copy. */
+static const gint16 *load(const struct format *format, const guint8 *in, guint line, guint ends, guint frames, gint16 *room)
 {
-    if (format->codes != CODES_NONE) {
-        for (guint k = 0; k < frames; k++)
-            room[k] = in[k * format->channels + line];
-        return room;
-    }
-    if (format->channels == 1 && (guintptr)in % sizeof(gint16) == 0 && G_BYTE_ORDER == G_LITTLE_ENDIAN)
+    if (format->codes == CODES_NONE && format->channels == ends && (guintptr)in % sizeof(gint16) == 0 && G_BYTE_ORDER == G_LITTLE_ENDIAN)
         return (const gint16 *)(const void *)in;
     for (guint k = 0; k < frames; k++)
-        room[k] = (gint16)GST_READ_UINT16_LE(in + 2 * ((gsize)k * format->channels + line));
+        for (guint end = 0; end < ends; end++) {
+            gsize at = (gsize)k * format->channels + line * ends + end;
+            room[k * ends + end] = format->codes != CODES_NONE ? in[at] : (gint16)GST_READ_UINT16_LE(in + 2 * at);
+        }
     return room;
 }
 
@@ -273,18 +271,18 @@ static rokdaum_code serve_line(GstRokdaum *self, struct passage *passage, const 
 {
     gint16 room[BLOCK], gave[BLOCK];
     guint32 count = 0;
-    guint line = block->line;
-    const gint16 *samples = load(&self->in, in, line, frames, room);
+    guint line = block->line, ends = self->passes.ends, words = frames * ends;
+    const gint16 *samples = load(&self->in, in, line, ends, frames, room);
     for (guint at = self->made->chains; at-- > 0;) {
         const struct setup_chain *chain = &self->made->chain[at];
         struct progress *progress = &self->progress[line][at];
-        rokdaum_code code = line_feed(self->host, &self->lines[line], at, samples, frames, gave, BLOCK, &count);
+        rokdaum_code code = line_feed(self->host, &self->lines[line], at, samples, words, gave, BLOCK, &count);
         if (code != ROKDAUM_OK)
             return code;
         if (chain->is_listener && self->messages)
             listener_tell(progress, self->made, chain, block, gave, count, GST_OBJECT(self), &passage->posts);
         if (chain->is_listener || chain->factor > 1)
-            progress_pass(progress, chain, frames);
+            progress_pass(progress, chain, words);
     }
     *given = passage->out ? count : frames;
     if (passage->out)
@@ -295,9 +293,10 @@ static rokdaum_code serve_line(GstRokdaum *self, struct passage *passage, const 
 /* All lines over a buffer. The lock is held. */
 static rokdaum_code serve(GstRokdaum *self, struct passage *passage)
 {
-    struct heard_block block = {GST_CLOCK_TIME_NONE, self->in.rate, 0, self->digit_frames};
+    guint ends = self->passes.ends;
+    struct heard_block block = {GST_CLOCK_TIME_NONE, self->in.rate * ends, 0, self->digit_frames};
     for (gsize done = 0; done < passage->frames;) {
-        guint frames = (guint)MIN(passage->frames - done, BLOCK), given = 0;
+        guint frames = (guint)MIN(passage->frames - done, BLOCK / ends), given = 0;
         if (GST_CLOCK_TIME_IS_VALID(passage->at))
             block.at = passage->at + gst_util_uint64_scale(done, GST_SECOND, self->in.rate);
         for (block.line = 0; block.line < self->count; block.line++) {
@@ -320,7 +319,7 @@ static void look_at_discont(GstRokdaum *self, GstBuffer *buffer)
     if (is_discont && self->on_discont == DISCONT_RESET)
         reset_lines(self);
     /* A decimator gives its next output with the sample of some place: so many samples of it came before. */
-    guint64 waits = self->passes.factor > 1 ? self->passes.factor - 1 - progress_place(&self->progress[0][0], &self->made->chain[0], 0) : 0;
+    guint64 waits = self->passes.factor > 1 ? self->passes.factor - (progress_place(&self->progress[0][0], &self->made->chain[0], 0) + 1) / self->passes.ends : 0;
     GstClockTime before = gst_util_uint64_scale(waits, GST_SECOND, self->in.rate), at = GST_BUFFER_PTS(buffer);
     self->since = !GST_CLOCK_TIME_IS_VALID(at) ? at : at > before ? at - before : 0;
     self->given = 0;
@@ -537,8 +536,8 @@ static void take_setup(GstRokdaum *self, const char *text, GError *error)
         error = g_error_new_literal(SETUP_ERROR, 0, "there is none");
     g_mutex_lock(&self->lock);
     gboolean is_running = self->host != NULL;
-    if (setup && self->made && self->made->chain[0].takes != setup->chain[0].takes) {
-        g_set_error_literal(&error, SETUP_ERROR, 0, "what the line takes, samples or codes of a law, can't be changed while it runs");
+    if (setup && self->made && (self->made->chain[0].takes != setup->chain[0].takes || self->made->chain[0].ends != setup->chain[0].ends)) {
+        g_set_error_literal(&error, SETUP_ERROR, 0, "what the line takes, samples or codes of a law, of one end or two, can't be changed while it runs");
         g_clear_pointer(&setup, g_free);
     }
     if (setup || !is_running) {
@@ -704,7 +703,7 @@ static void gst_rokdaum_class_init(GstRokdaumClass *klass)
     install_of_hosts(object);
     /* Emit `command` with a line of a script; the answer is that of dsp_console. */
     signals[SIGNAL_COMMAND] = g_signal_new_class_handler("command", G_TYPE_FROM_CLASS(klass), G_SIGNAL_RUN_LAST | G_SIGNAL_ACTION, G_CALLBACK(command), NULL, NULL, NULL, G_TYPE_STRING, 1, G_TYPE_STRING);
-    gst_element_class_set_static_metadata(element, "Rokdaum line", "Filter/Effect/Analyzer/Audio", "Fixed-point filters, companding, meters and DTMF in a host with shared scratch memory", "The Rokdaum project");
+    gst_element_class_set_static_metadata(element, "Rokdaum line", "Filter/Effect/Analyzer/Audio", "Fixed-point filters, companding, echo cancellers, meters and DTMF in a host with shared scratch memory", "The Rokdaum project");
     gst_element_class_add_static_pad_template(element, &sink_template);
     gst_element_class_add_static_pad_template(element, &src_template);
     base->transform_caps = transform_caps;

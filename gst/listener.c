@@ -81,7 +81,7 @@ static double decibels(const struct setup_instance *meter, gint16 energy)
 static GstMessage *frames(const struct setup *setup, const struct setup_chain *chain, const struct heard_block *block, const gint16 *words, guint count, GstClockTime end, GstObject *source)
 {
     GValue all = G_VALUE_INIT, levels = G_VALUE_INIT;
-    GstClockTime lasts = gst_util_uint64_scale((guint64)chain->period[chain->count - 1] * chain->factor, GST_SECOND, block->rate);
+    GstClockTime lasts = gst_util_uint64_scale((guint64)chain->period[chain->count - 1] * chain->factor * chain->ends, GST_SECOND, block->rate);
     GstClockTime begin = !GST_CLOCK_TIME_IS_VALID(end) ? end : end > lasts ? end - lasts : 0;
     gst_value_array_init(&all, count);
     for (guint k = 0; k < count; k++)

@@ -27,8 +27,8 @@ void progress_pass(struct progress *progress, const struct setup_chain *chain, g
 /* A block of samples that a listener heard: where it stands in running time, GST_CLOCK_TIME_NONE where that isn't known. */
 struct heard_block {
     GstClockTime at;
-    guint rate;
-    guint line;        /* the channel of the audio, from 0 */
+    guint rate;         /* words a second: of each end that a line takes, one a sample */
+    guint line;         /* the line, from 0 */
     guint digit_frames; /* how many frames in a row make a digit; 0 as the detector's words have it */
 };
 

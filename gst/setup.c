@@ -4,7 +4,7 @@
 
 #include <string.h>
 
-static const char *const kinds[] = {"fir", "decim", "biquad", "tone", "g711", "gain", "level", "dtmf"};
+static const char *const kinds[] = {"fir", "decim", "biquad", "tone", "g711", "gain", "level", "dtmf", "echo", "adpcm", "signal", "activity"};
 static const char *const spaces[] = {"daram", "saram", "external"};
 /* One word more than a line may have, so that too many are seen. A channel divides the rate by MOST_FACTOR at most. */
 enum { MOST_WORDS = 4 + ROKDAUM_PARAMETER_WORDS + 1, NO_NUMBER = 1 << 20, MOST_FACTOR = 1 << 20 };
@@ -80,7 +80,7 @@ static const char *create(struct setup *setup, char **words, guint count)
     gint number = number_of(words[1], 0, ROKDAUM_INSTANCES - 1), kind = place_of(kinds, G_N_ELEMENTS(kinds), words[2]);
     gint group = number_of(words[3], 0, ROKDAUM_GROUPS - 1);
     if (kind < 0)
-        return "a kind is fir, decim, biquad, tone, g711, gain, level or dtmf";
+        return "a kind is fir, decim, biquad, tone, g711, gain, level, dtmf, echo, adpcm, signal or activity";
     if (number == NO_NUMBER || group == NO_NUMBER)
         return "an instance is 0 to 63, and a group 0 to 7";
     if (setup_find(setup, (guint)number) >= 0)
@@ -106,12 +106,14 @@ static gboolean is_member(const struct setup *setup, guint of)
 
 static gboolean is_detector(rokdaum_kind kind)
 {
-    return kind == ROKDAUM_TONE || kind == ROKDAUM_LEVEL || kind == ROKDAUM_DTMF;
+    return kind == ROKDAUM_TONE || kind == ROKDAUM_LEVEL || kind == ROKDAUM_DTMF || kind == ROKDAUM_ACTIVITY;
 }
 
 /* For how many words a member gives one: 1 where it has no such parameter, and then the host refuses it. */
 static guint period_of(const struct setup_instance *one)
 {
+    if (one->kind == ROKDAUM_ECHO)
+        return 2;
     guint at = one->kind == ROKDAUM_TONE ? 1 : 0;
     gboolean has_one = one->kind == ROKDAUM_DECIM || is_detector(one->kind);
     return has_one && at < one->count && one->words[at] > 0 ? (guint)one->words[at] : 1;
@@ -124,10 +126,28 @@ static rokdaum_digits digits_of(const struct setup_instance *one)
     return is_b ? (rokdaum_digits)ROKDAUM_DIGITS_B : (rokdaum_digits)ROKDAUM_DIGITS_A;
 }
 
+/* Why a coder of G.726 can't stand where it does, or null. Its codes have 2 to 5 bits, and what is on the pads has whole octets. */
+static const char *look_at_coder(const struct setup_instance *one, gboolean first, gboolean last)
+{
+    gboolean decodes = one->count == 2 && one->words[1] == 1;
+    return (decodes && first) || (!decodes && last) ? "codes of G.726 don't leave the element: a channel encodes, and then decodes" : 0;
+}
+
+/* An echo canceller needs the samples as they come, pair by pair: before it there is nothing, or a decoder that gives a sample for a code. */
+static const char *look_at_canceller(struct setup_chain *chain, gboolean second)
+{
+    chain->ends = 2;
+    return chain->count == 0 || (second && chain->takes != CODES_NONE) ? 0 : "an echo begins its channel, or is second behind a decoder of G.711";
+}
+
 /* What one member of a chain means for what the chain takes and gives. */
 static const char *look_at_member(struct setup_chain *chain, const struct setup_instance *one, gboolean first, gboolean last)
 {
     guint period = chain->period[chain->count] = period_of(one);
+    if (one->kind == ROKDAUM_ADPCM)
+        return look_at_coder(one, first, last);
+    if (one->kind == ROKDAUM_ECHO)
+        return look_at_canceller(chain, chain->count == 1);
     if (one->kind == ROKDAUM_DECIM) {
         if (chain->factor > MOST_FACTOR / period)
             return "a channel divides the rate by 1,048,576 at most";
@@ -135,7 +155,7 @@ static const char *look_at_member(struct setup_chain *chain, const struct setup_
     }
     if (is_detector(one->kind)) {
         if (!last)
-            return "a detector (tone, level, dtmf) ends its channel";
+            return "a detector (tone, level, dtmf, activity) ends its channel";
         chain->is_listener = TRUE;
         chain->kind = one->kind;
         chain->digits = digits_of(one);
@@ -158,7 +178,7 @@ static const char *join(struct setup *setup, char **words, guint count)
     for (guint at = 0; at < setup->chains; at++)
         if (setup->chain[at].number == number)
             return "the channel has members already";
-    struct setup_chain chain = {.number = (guint8)number, .factor = 1};
+    struct setup_chain chain = {.number = (guint8)number, .factor = 1, .ends = 1};
     for (guint at = 2; at < count; at++) {
         gint of = setup_find(setup, (guint)number_of(words[at], 0, ROKDAUM_INSTANCES - 1));
         if (of < 0)
@@ -220,9 +240,11 @@ static const char *look_at_chains(struct setup *setup)
     setup->chain[0] = first;
     for (at = 1; at < setup->chains; at++) {
         if (!setup->chain[at].is_listener)
-            return "each channel but 0 ends in a detector (tone, level, dtmf)";
+            return "each channel but 0 ends in a detector (tone, level, dtmf, activity)";
         if (setup->chain[at].takes != first.takes)
             return "each channel hears what channel 0 hears: codes of the same law, or samples";
+        if (setup->chain[at].ends != first.ends)
+            return "each channel hears what channel 0 hears: two ends of a line, which an echo takes, or one";
     }
     return 0;
 }

@@ -3,7 +3,7 @@
  * The setup of a line: lines of a script, `create`, `chain` and `control I set`, read into a table.
  *
  * A setup is of one line. Its channel 0 is the audio path. Each other channel is a listener: it hears what channel 0 hears, and ends in a
- * detector (tone, level, dtmf). A channel 0 that ends in a detector is a listener too; the audio then passes by unchanged. */
+ * detector (tone, level, dtmf, activity). A channel 0 that ends in a detector is a listener too; the audio then passes by unchanged. */
 #ifndef SETUP_H
 #define SETUP_H
 
@@ -29,12 +29,13 @@ struct setup_control {
 struct setup_chain {
     guint8 number;
     guint count, of[ROKDAUM_MEMBERS];
-    guint period[ROKDAUM_MEMBERS]; /* a member gives one word for so many: the factor of a decimator, the frame of a detector, or 1 */
+    guint period[ROKDAUM_MEMBERS]; /* a member gives one word for so many: the factor of a decimator, the frame of a detector, the pair of an echo, or 1 */
     guint factor;                  /* what the decimators divide the rate by */
     gboolean is_listener;          /* it ends in a detector, whose kind is `kind` */
     rokdaum_kind kind;
     rokdaum_digits digits;         /* the rule that goes with the words of a dtmf */
     enum setup_codes takes, gives;
+    guint ends;                    /* the words that it takes of each frame: 2 where it cancels echo, the far end's and the near end's, or 1 */
 };
 
 struct setup {

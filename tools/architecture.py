@@ -71,7 +71,7 @@ PLACES: dict[str, Place] = {
     "port_files": Place(RUNS, 10, "opens the files"),
     "dsp_program": Place(RUNS, 12, "the program, any kinds"),
     "dsp_console_main": Place(RUNS, 13, "five kinds"),
-    "gateway_console": Place(RUNS, 13, "eleven kinds"),
+    "gateway_console": Place(RUNS, 13, "twelve kinds"),
     "dsp_library": Place(RUNS, 13, "the library for C"),
     # algorithms
     "basic_op": Place(KINDS, 0, "G.191's operators"),
@@ -92,9 +92,11 @@ PLACES: dict[str, Place] = {
     "alg_echo": Place(KINDS, 5, "line echo canceller"),
     "alg_adpcm": Place(KINDS, 6, "G.726"),
     "alg_signal": Place(KINDS, 6, "tones with a cadence"),
-    "gateway_kinds": Place(KINDS, 7, "all eleven as one type"),
+    "alg_activity": Place(KINDS, 6, "voice activity"),
+    "gateway_kinds": Place(KINDS, 7, "all twelve as one type"),
     # tests
     "test_algorithms": Place(TESTS, 7, "kinds by numbers"),
+    "test_blocker": Place(TESTS, 5, "a kind with a state"),
     "test_doubles": Place(TESTS, 6, "what fails or breaks laws"),
     "test_memory": Place(TESTS, 8, "heaps, spaces, groups"),
     "test_lives": Place(TESTS, 9, "one or two instances"),

@@ -52,6 +52,8 @@ HOLDS = {
     ("alg_dtmf", "MOST_SHIFT"): in_model("gateway.py", "= 7, 127, 14, 19"),
     ("alg_dtmf", "PARAMETERS"): in_model("gateway.py", "= 7, 127, 14, 19"),
     ("alg_dtmf", "STATE_WORDS"): in_model("gateway.py", "= 7, 127, 14, 19"),
+    ("alg_activity", "ACTIVITY_KIND"): UNSEEN,
+    ("alg_activity", "STATE_WORDS"): in_model("gateway_states.py", "records(6, 2 + p[0] + 3)"),
     ("alg_adpcm", "ADPCM_KIND"): UNSEEN,
     ("alg_adpcm", "STATE_WORDS"): in_model("gateway_states.py", "records(2, 25)"),
     ("alg_echo", "ECHO_KIND"): UNSEEN,

@@ -178,10 +178,10 @@ class Repository:
     def other_words(self) -> set[str]:
         """The words of what isn't a crate: the scripts, the examples, and the names of all files."""
         found: set[str] = set()
-        for folder in (".ci", "bench", "c", "docs", "examples", "python", "tests", "tools"):
+        for folder in (".ci", "bench", "c", "docs", "examples", "python", "rust", "tests", "tools"):
             for path in sorted((self.root / folder).rglob("*")):
                 found |= set(WORD.findall(path.name))
-                if path.is_file() and path.suffix in ("", ".py", ".c", ".h", ".sh", ".toml") and path.name != "closure.py":
+                if path.is_file() and path.suffix in ("", ".py", ".c", ".h", ".rs", ".sh", ".toml") and path.name != "closure.py":
                     found |= set(WORD.findall(path.read_text(encoding="utf-8", errors="ignore")))
         for path in self.root.iterdir():
             found |= set(WORD.findall(path.name))

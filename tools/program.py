@@ -190,7 +190,7 @@ def look_at_kit(say: Say) -> None:
     if not shutil.which("rt"):
         raise CantBuild(
             "the program isn't built yet, and rt, the command of the Rattle kit that proves and builds it, isn't on PATH: "
-            "install the kit that README.md names (x86-64 Linux), or take a release, which needs none",
+            "README.md says what a build takes",
             CANT_BUILD_HERE,
         )
     here = kit_lines(subprocess.run(["rt", "version"], capture_output=True, text=True).stdout)

@@ -47,6 +47,8 @@ README = "docs/RELEASE.md"
 FOLDERS = ("docs/", "examples/", "python/", "c/examples/", "gst/")
 LEFT_OUT = ("python/tests/", "gst/tests/")
 HEADER = "c/rokdaum.h"
+# What CMake finds the library by: c/Makefile makes them.
+CMAKE = ("rokdaumConfig.cmake", "rokdaumConfigVersion.cmake")
 # Where the toolchain says in a program which logic it was proved by, and the versions of the C library that it asks for.
 LOGIC = re.compile(rb"rattle logic=([0-9a-f]{64})")
 GLIBC = re.compile(rb"GLIBC_(\d+)\.(\d+)")
@@ -134,6 +136,7 @@ def library() -> dict[str, Entry]:
     where = (TOP / "c" / "rokdaum.pc.in").read_text(encoding="utf-8").replace("@VERSION@", version())
     # Where it was unpacked the header stands in c.
     there = where.replace("@PREFIX@", "${pcfiledir}/../..").replace("${prefix}/include", "${prefix}/c")
+    found |= {f"lib/cmake/rokdaum/{it}": ((out / it).read_bytes(), False) for it in CMAKE}
     return {**found, "lib/pkgconfig/rokdaum.pc": (there.encode(), False)}
 
 

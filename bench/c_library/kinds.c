@@ -43,6 +43,7 @@ static const struct kind {
     {"ADPCM", "32 kbit/s, encodes", ROKDAUM_ADPCM, 2, {32, 0}},
     {"ADPCM", "32 kbit/s, decodes", ROKDAUM_ADPCM, 2, {32, 1}},
     {"signal", "two tones", ROKDAUM_SIGNAL, 7, {26956, 9315, 16325, 14206, 800, 400, 0}},
+    {"activity", "frames of 80", ROKDAUM_ACTIVITY, 6, {80, 6, 3, 7, 320, 15}},
 };
 enum { KINDS = sizeof kinds / sizeof *kinds };
 

@@ -1,5 +1,5 @@
 /* SPDX-License-Identifier: Apache-2.0
- * Gains, meters of energy, detectors of digits, echo cancellers, G.726 and generators, beside what is written out here, and each kind once. */
+ * Gains, meters of energy, detectors of digits, echo cancellers, G.726, generators and detectors of voice activity, beside what is written out here, and each kind once. */
 #include "rokdaum.h"
 #include "wanted.h"
 #include <math.h>
@@ -175,6 +175,24 @@ static void signals(void)
     want("its parameters", n == 7 && !memcmp(words, parameters, sizeof parameters), 1);
 }
 
+/* Six quiet frames of 64 samples, four loud ones, and six quiet ones, of which two count by the hangover. */
+static void activities(void)
+{
+    static const int16_t parameters[6] = {64, 6, 3, 6, 320, 2};
+    int wrong = 0;
+    make(13, ROKDAUM_ACTIVITY, parameters, 6);
+    for (int i = 0; i < N; i++)
+        in[i] = (int16_t)((i / 64 >= 6 && i / 64 < 10 ? 8000 : 50) * (i % 2 ? 1 : -1));
+    want("feed", rokdaum_feed(&host, 13, in, N, out, N, &n), ROKDAUM_OK);
+    want("one for each frame", n, N / 64);
+    for (int f = 0; f < N / 64; f++)
+        wrong += out[f] != (f >= 6 && f < 12);
+    want("frames that are told wrongly", wrong, 0);
+    want("get", rokdaum_get(&host, 13, words, 72, &n), ROKDAUM_OK);
+    want("no sample waits", n == 1 && words[0] == 0, 1);
+    want("no such margin", rokdaum_create(&host, 14, ROKDAUM_ACTIVITY, 0, (const int16_t[]){64, 6, 16, 6, 320, 2}, 6, 0), ROKDAUM_PARAMS);
+}
+
 static void each_kind(void)
 {
     static const int16_t a[] = ROKDAUM_DTMF_A, one[72] = {1, 1, 1}, adpcm[2] = {32, 0};
@@ -185,10 +203,10 @@ static void each_kind(void)
     } kinds[] = {
         {ROKDAUM_FIR, one, 3}, {ROKDAUM_DECIM, one, 3}, {ROKDAUM_BIQUAD, one, 5}, {ROKDAUM_TONE, one, 3},
         {ROKDAUM_G711, one, 2}, {ROKDAUM_GAIN, one, 1}, {ROKDAUM_LEVEL, one, 2}, {ROKDAUM_DTMF, a, 7},
-        {ROKDAUM_ECHO, one, 4}, {ROKDAUM_ADPCM, adpcm, 2}, {ROKDAUM_SIGNAL, one, 7},
+        {ROKDAUM_ECHO, one, 4}, {ROKDAUM_ADPCM, adpcm, 2}, {ROKDAUM_SIGNAL, one, 7}, {ROKDAUM_ACTIVITY, one, 6},
     };
-    for (int k = 0; k < 11; k++) {
-        want("the kinds have the numbers 0 to 10", kinds[k].kind, k);
+    for (int k = 0; k < 12; k++) {
+        want("the kinds have the numbers 0 to 11", kinds[k].kind, k);
         want("create each", rokdaum_create(&host, (uint8_t)(32 + k), kinds[k].kind, 7, kinds[k].words, kinds[k].count, 0), ROKDAUM_OK);
     }
 }
@@ -206,6 +224,7 @@ int main(void)
     echoes();
     codes();
     signals();
+    activities();
     each_kind();
     want("sixteen places of keys", sizeof ROKDAUM_DTMF_KEYS, 17);
     want("close", rokdaum_close(&host), ROKDAUM_OK);

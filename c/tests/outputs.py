@@ -18,6 +18,7 @@ sys.path.insert(0, str(Path(__file__).resolve().parent.parent.parent / "tests" /
 
 from rokdaum_model.companding import LAW_A, LAW_MU, decode, encode  # noqa: E402  (the model's folder has to be on the path first)
 from rokdaum_model.kinds import LAWFUL  # noqa: E402
+from rokdaum_model.voices import Block, determined  # noqa: E402
 
 LINES, SAMPLES, TURNS = 16, 160, 4
 # What each line of sixteen_channels goes through: a mu-law decoder, a notch, and a mu-law encoder.
@@ -35,10 +36,10 @@ def lines_of(turns: int) -> bytes:
     written = bytearray()
     for turn in range(turns):
         for line, members in enumerate(chains):
-            block = [turn * 7 + line * 31 + sample * 13 & 255 for sample in range(SAMPLES)]
+            block: Block = [turn * 7 + line * 31 + sample * 13 & 255 for sample in range(SAMPLES)]
             for one in members:
                 block = one.process(block)
-            written += bytes(block)
+            written += bytes(determined(block))
     return bytes(written)
 
 

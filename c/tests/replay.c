@@ -13,10 +13,10 @@ static int ports, refused;
 static rokdaum host = ROKDAUM_CLOSED;
 
 static const char *const names[] = {"", "long", "syntax", "range", "taken", "missing", "params", "room", "busy", "command", "short"};
-static const char *const kinds[] = {"fir", "decim", "biquad", "tone", "g711", "gain", "level", "dtmf", "echo", "adpcm", "signal"};
+static const char *const kinds[] = {"fir", "decim", "biquad", "tone", "g711", "gain", "level", "dtmf", "echo", "adpcm", "signal", "activity"};
 #ifdef GATEWAY
 #define NAME "gateway_console"
-enum { KINDS = 11 };
+enum { KINDS = 12 };
 #else
 #define NAME "dsp_console"
 enum { KINDS = 5 };

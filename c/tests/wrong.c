@@ -136,7 +136,7 @@ static void instances(void)
 {
     const int16_t long_one[2] = {16384, 16384}, frame[2] = {1025, 0}, digits[7] = ROKDAUM_DTMF_A, long_frames[7] = {128};
     int16_t large[64] = {0};
-    refused("no such kind", rokdaum_create(&host, 0, (rokdaum_kind)11, 0, half, 1, &to.full), ROKDAUM_BAD_KIND);
+    refused("no such kind", rokdaum_create(&host, 0, (rokdaum_kind)12, 0, half, 1, &to.full), ROKDAUM_BAD_KIND);
     refused("no such kind at all", rokdaum_create(&host, 0, (rokdaum_kind)4000000, 0, half, 1, &to.full), ROKDAUM_BAD_KIND);
     refused("a gain of two factors", rokdaum_create(&host, 0, ROKDAUM_GAIN, 0, long_one, 2, &to.full), ROKDAUM_PARAMS);
     refused("a meter without a shift", rokdaum_create(&host, 0, ROKDAUM_LEVEL, 0, half, 1, &to.full), ROKDAUM_PARAMS);

@@ -1,7 +1,7 @@
 # SPDX-License-Identifier: Apache-2.0
 """What the recipes share: how dsp_console is started, and how files of samples are read and written.
 
-DSP_CONSOLE names another program, with words before its arguments if it needs them.
+DSP_CONSOLE and GATEWAY_CONSOLE name other programs, with words before their arguments if they need them.
 """
 from __future__ import annotations
 
@@ -16,6 +16,7 @@ from pathlib import Path
 
 REPOSITORY = Path(__file__).resolve().parent.parent.parent
 RATE = 8000
+CONSOLE, GATEWAY = "dsp_console", "gateway_console"
 LONGEST_FEED = 1024
 
 
@@ -23,9 +24,9 @@ class Refused(SystemExit):
     """A line of a script was refused: its number, its text and the reply. Who doesn't catch it ends with that line."""
 
 
-def program() -> list[str]:
-    """The words that start dsp_console."""
-    return shlex.split(os.environ.get("DSP_CONSOLE", "")) or [str(REPOSITORY / "dsp_console")]
+def program(name: str = CONSOLE) -> list[str]:
+    """The words that start dsp_console, or gateway_console."""
+    return shlex.split(os.environ.get(name.upper(), "")) or [str(REPOSITORY / name)]
 
 
 def feeds(channel: int, samples: int, block: int = LONGEST_FEED) -> list[str]:
@@ -39,25 +40,25 @@ def samples_in(path: Path, octets: bool = False) -> int:
     return path.stat().st_size // (1 if octets else 2)
 
 
-def serve(lines: Sequence[str], ports: Iterable[Path], options: Sequence[str] = ()) -> list[str]:
+def serve(lines: Sequence[str], ports: Iterable[Path], options: Sequence[str] = (), name: str = CONSOLE) -> list[str]:
     """Runs a script over pairs of files, IN and OUT, and gives the replies. Raises Refused at the first refused line."""
-    replies = answers(lines, ports, options)
+    replies = answers(lines, ports, options, name)
     for number, (line, reply) in enumerate(zip(lines, replies), 1):
         if reply.startswith("no "):
             raise Refused(f"line {number}: {line}: {reply}")
     return replies
 
 
-def answers(lines: Sequence[str], ports: Iterable[Path], options: Sequence[str] = ()) -> list[str]:
+def answers(lines: Sequence[str], ports: Iterable[Path], options: Sequence[str] = (), name: str = CONSOLE) -> list[str]:
     """The same where refused lines are wanted too."""
     with tempfile.NamedTemporaryFile("w", suffix=".script") as script:
         script.write("\n".join(lines) + "\n")
         script.flush()
-        words = [*program(), *options, script.name, *map(str, ports)]
+        words = [*program(name), *options, script.name, *map(str, ports)]
         # The standard error is the caller's: there the first use says how far it is, and a failed run why.
         ran = subprocess.run(words, stdin=subprocess.DEVNULL, stdout=subprocess.PIPE, text=True, check=False)
     if ran.returncode not in (0, 1):
-        sys.exit(f"dsp_console ended with status {ran.returncode}")
+        sys.exit(f"{name} ended with status {ran.returncode}")
     return ran.stdout.splitlines()
 
 

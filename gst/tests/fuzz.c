@@ -19,17 +19,21 @@ static guint below(guint end)
     return (guint)(state >> 33) % end;
 }
 
-static const char *const kinds[] = {"fir", "decim", "biquad", "tone", "g711", "gain", "level", "dtmf", "gane"};
+static const char *const kinds[] = {"fir", "decim", "biquad", "tone", "g711", "gain", "level", "dtmf", "echo", "adpcm", "signal", "activity", "gane"};
 static void words(GString *to, guint kind)
 {
-    static const guint usual[] = {5, 4, 5, 3, 2, 1, 2, 7, 1};
+    static const guint usual[] = {5, 4, 5, 3, 2, 1, 2, 7, 4, 2, 7, 6, 1};
     guint count = below(8) ? usual[kind] : below(80);
     if (kind == 7 && below(3)) {
         g_string_append(to, " 102 7 91 2920 7336 5827 22938");
         return;
     }
+    if (kind == 9 && below(5)) {
+        g_string_append_printf(to, " %d %d", 8 * (2 + (int)below(4)), (int)below(2));
+        return;
+    }
     for (guint k = 0; k < count; k++)
-        g_string_append_printf(to, " %d", kind == 4 ? (int)below(2) : (kind == 1 && !k) || kind == 6 || (kind == 3 && k) ? (int)below(16) + (k == 0 || kind == 3) : below(300) ? (int)below(65536) - 32768 : (int)below(1000000));
+        g_string_append_printf(to, " %d", (kind == 8 && !k) || (kind == 11 && k < 4) ? 1 + (int)below(15) : kind == 4 ? (int)below(2) : (kind == 1 && !k) || kind == 6 || (kind == 3 && k) ? (int)below(16) + (k == 0 || kind == 3) : below(300) ? (int)below(65536) - 32768 : (int)below(1000000));
 }
 
 /* Eight decimators, by more than there are samples in a second. */
@@ -49,8 +53,8 @@ static char *setup(void)
     GString *to = g_string_new(0);
     guint instances = 1 + below(6), chains = 1 + (below(4) == 0), next = 0;
     for (guint k = 0; k < instances; k++) {
-        static const guint filters[] = {0, 1, 2, 4, 5};
-        guint kind = below(200) == 0 ? 8 : k + 1 < instances && below(10) ? filters[below(5)] : below(8);
+        static const guint filters[] = {0, 1, 2, 4, 5, 10};
+        guint kind = below(200) == 0 ? G_N_ELEMENTS(kinds) - 1 : !k && !below(4) ? 8 : k + 1 < instances && below(10) ? filters[below(6)] : below(G_N_ELEMENTS(kinds) - 1);
         g_string_append_printf(to, "create %u %s %u", k, kinds[kind], below(100) ? below(3) : below(12));
         words(to, kind);
         g_string_append(to, below(2) ? "\n" : "; ");

@@ -70,21 +70,36 @@ static void noise(gint16 *to, gsize count, guint32 seed)
     }
 }
 
-/* The three sections of `band` by the library alone. */
-static gsize by_library(const gint16 *in, gsize count, gint16 *out)
+/* One instance, and what a chain of them gives by the library alone. */
+struct member {
+    rokdaum_kind kind;
+    gsize count;
+    gint16 words[8];
+};
+
+static gsize by_members(const struct member *chain, guint8 length, const gint16 *in, gsize count, gint16 *out)
 {
-    static const gint16 words[3][5] = {{11969, 0, -11969, -2999, -7553}, {12335, 24670, 12335, 23864, 10482}, {14459, -28918, 14459, -28604, 13055}};
-    static const guint8 members[3] = {0, 1, 2};
+    guint8 members[ROKDAUM_MEMBERS];
     rokdaum_options options = ROKDAUM_OPTIONS;
     rokdaum host = ROKDAUM_CLOSED;
     size_t given = 0;
     fail_if(rokdaum_open(&host, &options));
-    for (guint8 k = 0; k < 3; k++)
-        fail_if(rokdaum_create(&host, k, ROKDAUM_BIQUAD, k, words[k], 5, 0));
-    fail_if(rokdaum_chain(&host, 0, members, 3));
+    for (guint8 k = 0; k < length; k++) {
+        members[k] = k;
+        fail_if(rokdaum_create(&host, k, chain[k].kind, k, chain[k].words, chain[k].count, 0));
+    }
+    fail_if(rokdaum_chain(&host, 0, members, length));
     fail_if(rokdaum_feed_all(&host, 0, in, count, out, count, &given));
     fail_if(rokdaum_close(&host));
     return given;
+}
+
+/* The three sections of `band` by the library alone. */
+static gsize by_library(const gint16 *in, gsize count, gint16 *out)
+{
+    static const struct member sections[3] = {
+        {ROKDAUM_BIQUAD, 5, {11969, 0, -11969, -2999, -7553}}, {ROKDAUM_BIQUAD, 5, {12335, 24670, 12335, 23864, 10482}}, {ROKDAUM_BIQUAD, 5, {14459, -28918, 14459, -28604, 13055}}};
+    return by_members(sections, 3, in, count, out);
 }
 
 GST_START_TEST(cuts_give_what_the_library_gives)
@@ -229,6 +244,112 @@ GST_START_TEST(codes_in_and_out)
     fail_unless(memcmp(heard->data, samples, 1024) == 0);
     gst_harness_teardown(h);
     g_byte_array_unref(heard);
+}
+GST_END_TEST
+
+#define CANCELLER "create 0 echo 0 16 8192 16384 240; "
+
+/* A far end, and a near end that is a fourth of what the far end was two frames before: two of so many channels, from `to` on. */
+static void line_with_echo(gint16 *to, gsize frames, guint channels, guint32 seed)
+{
+    gint16 far[4000];
+    noise(far, frames, seed);
+    for (gsize k = 0; k < frames; k++) {
+        to[k * channels] = far[k];
+        to[k * channels + 1] = k < 2 ? 0 : far[k - 2] / 4;
+    }
+}
+
+GST_START_TEST(two_ends_of_a_line)
+{
+    enum { FRAMES = 4000, LINES = 3 };
+    static gint16 in[FRAMES * 2 * LINES], one[FRAMES * 2], wanted[FRAMES];
+    static const struct member canceller = {ROKDAUM_ECHO, 4, {16, 8192, 16384, 240}};
+    GByteArray *heard = g_byte_array_new();
+    GstHarness *h = made(CANCELLER "chain 0 0", RAW(8000, 2), RAW(8000, 1));
+    line_with_echo(one, FRAMES, 2, 5);
+    fail_unless_equals_int(by_members(&canceller, 1, one, 2 * FRAMES, wanted), FRAMES);
+    for (gsize done = 0, cut = 1; done < FRAMES; cut = cut * 7 % 1501 + 1) {
+        gsize some = MIN(cut, FRAMES - done);
+        push(h, one + 2 * done, 4 * some, heard);
+        done += some;
+    }
+    fail_unless_equals_int(heard->len, sizeof wanted);
+    fail_unless(memcmp(heard->data, wanted, sizeof wanted) == 0);
+    fail_unless(ABS(wanted[FRAMES - 1]) < 100 && ABS(one[2 * FRAMES - 1]) > 100, "%d of %d", wanted[FRAMES - 1], one[2 * FRAMES - 1]);
+    gst_harness_teardown(h);
+    /* six channels are three lines */
+    g_byte_array_set_size(heard, 0);
+    h = made(CANCELLER "chain 0 0", RAW(8000, 6) ",channel-mask=(bitmask)0x0", RAW(8000, 3) ",channel-mask=(bitmask)0x0");
+    for (guint line = 0; line < LINES; line++)
+        line_with_echo(in + 2 * line, FRAMES, 2 * LINES, 5 + line);
+    push(h, in, sizeof in, heard);
+    fail_unless_equals_int(heard->len, FRAMES * LINES * 2);
+    for (guint line = 0; line < LINES; line++) {
+        line_with_echo(one, FRAMES, 2, 5 + line);
+        by_members(&canceller, 1, one, 2 * FRAMES, wanted);
+        for (guint k = 0; k < FRAMES; k++)
+            fail_unless_equals_int(((gint16 *)(void *)heard->data)[k * LINES + line], wanted[k]);
+    }
+    gst_harness_teardown(h);
+    /* an odd channel is no line */
+    h = playing("rokdaum", CANCELLER "chain 0 0");
+    gst_harness_set_src_caps_str(h, RAW(8000, 3) ",channel-mask=(bitmask)0x0");
+    fail_unless_equals_int(gst_harness_push(h, gst_buffer_new_allocate(NULL, 60, NULL)), GST_FLOW_NOT_NEGOTIATED);
+    gst_harness_teardown(h);
+    must_meet(other_side(CANCELLER "chain 0 0", RAW(8000, 2), GST_PAD_SINK), RAW(8000, 1));
+    must_meet(other_side(CANCELLER "chain 0 0", RAW(8000, 1), GST_PAD_SRC), RAW(8000, 2));
+    must_meet(other_side(CANCELLER "create 1 decim 0 2 16384 16384; chain 0 0 1", RAW(16000, 2), GST_PAD_SINK), RAW(8000, 1));
+    must_meet(other_side("create 1 g711 0 1 1; " CANCELLER "chain 0 1 0", "audio/x-mulaw,rate=8000,channels=2", GST_PAD_SINK), RAW(8000, 1));
+    g_byte_array_unref(heard);
+}
+GST_END_TEST
+
+GST_START_TEST(codes_of_two_ends)
+{
+    static guint8 codes[2000], wanted[1000];
+    static gint16 words[2000], clear[1000];
+    static const struct member chain[3] = {{ROKDAUM_G711, 2, {1, 1}}, {ROKDAUM_ECHO, 4, {16, 8192, 16384, 240}}, {ROKDAUM_G711, 2, {0, 0}}};
+    GByteArray *heard = g_byte_array_new();
+    GstHarness *h = made("create 1 g711 0 1 1; create 2 g711 0 0 0; " CANCELLER "chain 0 1 0 2", "audio/x-mulaw,rate=8000,channels=2", "audio/x-alaw,rate=8000,channels=1");
+    noise(words, 2000, 9);
+    for (int k = 0; k < 2000; k++)
+        words[k] = codes[k] = (guint8)(words[k] >> 8);
+    fail_unless_equals_int(by_members(chain, 3, words, 2000, clear), 1000);
+    for (int k = 0; k < 1000; k++)
+        wanted[k] = (guint8)clear[k];
+    push(h, codes, 2000, heard);
+    fail_unless_equals_int(heard->len, 1000);
+    fail_unless(memcmp(heard->data, wanted, 1000) == 0);
+    g_byte_array_unref(heard);
+    gst_harness_teardown(h);
+}
+GST_END_TEST
+
+GST_START_TEST(coders_and_generators)
+{
+    enum { COUNT = 5000 };
+    static gint16 in[COUNT], wanted[COUNT];
+    static const struct {
+        const char *setup;
+        struct member chain[2];
+        guint8 length;
+    } lines[] = {
+        {"create 0 adpcm 0 32 0; create 1 adpcm 1 32 1; chain 0 0 1", {{ROKDAUM_ADPCM, 2, {32, 0}}, {ROKDAUM_ADPCM, 2, {32, 1}}}, 2},
+        {"create 0 signal 0 26956 9315 16325 14206 800 400 2; chain 0 0", {{ROKDAUM_SIGNAL, 7, {26956, 9315, 16325, 14206, 800, 400, 2}}}, 1},
+    };
+    noise(in, COUNT, 11);
+    for (guint at = 0; at < G_N_ELEMENTS(lines); at++) {
+        GByteArray *heard = g_byte_array_new();
+        GstHarness *h = made(lines[at].setup, RAW(8000, 1), RAW(8000, 1));
+        fail_unless_equals_int(by_members(lines[at].chain, lines[at].length, in, COUNT, wanted), COUNT);
+        push(h, in, 2 * 1234, heard);
+        push(h, in + 1234, sizeof in - 2 * 1234, heard);
+        fail_unless_equals_int(heard->len, sizeof wanted);
+        fail_unless(memcmp(heard->data, wanted, sizeof wanted) == 0);
+        g_byte_array_unref(heard);
+        gst_harness_teardown(h);
+    }
 }
 GST_END_TEST
 
@@ -640,6 +761,44 @@ GST_START_TEST(times_of_listeners)
 }
 GST_END_TEST
 
+/* What is heard of two ends: 80 pairs a frame, and the audio passes by as it is. */
+GST_START_TEST(listeners_of_two_ends)
+{
+    static gint16 in[2 * 400];
+    static const char *const setups[] = {CANCELLER "create 1 level 0 80 0; chain 0 0 1", CANCELLER "create 1 activity 0 80 6 3 6 320 0; chain 0 0 1"};
+    for (guint at = 0; at < G_N_ELEMENTS(setups); at++) {
+        GstHarness *h = playing("rokdaum", setups[at]);
+        GstBus *bus = with_bus(h);
+        guint frames = 0;
+        gst_harness_set_caps_str(h, RAW(8000, 2), RAW(8000, 2));
+        /* the near end talks from the third frame on */
+        for (guint k = 0; k < 400; k++)
+            in[2 * k + 1] = (gint16)(k < 160 ? 0 : k % 2 ? 5000 : -5000);
+        for (guint done = 0; done < 400; done += 50) {
+            GstBuffer *buffer = buffer_of(in + 2 * done, 200);
+            GST_BUFFER_PTS(buffer) = gst_util_uint64_scale(done, GST_SECOND, 8000);
+            fail_unless_equals_int(gst_harness_push(h, buffer), GST_FLOW_OK);
+            gst_buffer_unref(gst_harness_pull(h));
+        }
+        GstMessage *message;
+        while ((message = gst_bus_pop_filtered(bus, GST_MESSAGE_ELEMENT))) {
+            const GstStructure *said = gst_message_get_structure(message);
+            const GValue *words = gst_structure_get_value(said, "words");
+            guint64 begins, lasts;
+            fail_unless(words && gst_structure_get_uint64(said, "running-time", &begins) && gst_structure_get_uint64(said, "frame-duration", &lasts));
+            fail_unless_equals_uint64(begins, frames * 10 * GST_MSECOND);
+            fail_unless_equals_uint64(lasts, 10 * GST_MSECOND);
+            for (guint k = 0; k < gst_value_array_get_size(words); k++, frames++)
+                fail_unless_equals_int(g_value_get_int(gst_value_array_get_value(words, k)) > 0, frames >= 2);
+            gst_message_unref(message);
+        }
+        fail_unless_equals_int(frames, 5);
+        without_bus(h, bus);
+        gst_harness_teardown(h);
+    }
+}
+GST_END_TEST
+
 GST_START_TEST(times_behind_a_gap)
 {
     gint16 in[100] = {0};
@@ -769,11 +928,16 @@ GST_START_TEST(setups_that_are_refused)
         {"create 0 fir 0 1; chain 0 0 0", "line 2: chain 0 0 0: an instance is named twice"},
         {"create 0 fir 0 1; chain 0 0; chain 1 0", "line 3: chain 1 0: an instance is in a channel already"},
         {"create 0 fir 0 1; chain 0 1", "line 2: chain 0 1: an instance isn't there"},
-        {"create 0 fir 0 1; create 1 fir 0 1; chain 0 0; chain 1 1", "each channel but 0 ends in a detector (tone, level, dtmf)"},
+        {"create 0 fir 0 1; create 1 fir 0 1; chain 0 0; chain 1 1", "each channel but 0 ends in a detector (tone, level, dtmf, activity)"},
         {"create 0 fir 0 1; create 1 g711 0 1 1; create 2 level 0 4 0; chain 0 0; chain 1 1 2", "each channel hears what channel 0 hears: codes of the same law, or samples"},
         {"create 0 fir 0 1; chain 0 0; feed 0 all", "line 3: feed 0 all: a setup has create, chain and control I set"},
         {"create 0 fir 0 1", "no line chains channel 0"},
         {"create 0 fir 0 1; chain 0 0; control 0 reset", "line 3: control 0 reset: control I set W .."},
+        {"create 0 fir 0 1; create 1 echo 0 4 0 0 0; chain 0 0 1", "line 3: chain 0 0 1: an echo begins its channel, or is second behind a decoder of G.711"},
+        {"create 0 g711 0 1 0; create 1 echo 0 4 0 0 0; chain 0 0 1", "line 3: chain 0 0 1: an echo begins its channel, or is second behind a decoder of G.711"},
+        {"create 0 echo 0 4 0 0 0; create 1 level 0 4 0; chain 0 0; chain 1 1", "each channel hears what channel 0 hears: two ends of a line, which an echo takes, or one"},
+        {"create 0 adpcm 0 32 1; create 1 fir 0 1; chain 0 0 1", "line 3: chain 0 0 1: codes of G.726 don't leave the element: a channel encodes, and then decodes"},
+        {"create 0 fir 0 1; create 1 adpcm 0 32 0; chain 0 0 1", "line 3: chain 0 0 1: codes of G.726 don't leave the element: a channel encodes, and then decodes"},
     };
     for (guint k = 0; k < G_N_ELEMENTS(wrong); k++) {
         GstElement *element;
@@ -834,6 +998,9 @@ static Suite *rokdaum_suite(void)
     tcase_add_test(all, a_decimator_has_another_rate_and_times);
     tcase_add_test(all, caps);
     tcase_add_test(all, codes_in_and_out);
+    tcase_add_test(all, two_ends_of_a_line);
+    tcase_add_test(all, codes_of_two_ends);
+    tcase_add_test(all, coders_and_generators);
     tcase_add_test(all, digits_and_levels_are_posted);
     tcase_add_test(all, what_is_changed_while_it_runs);
     tcase_add_test(all, a_filter_becomes_a_listener_and_back);
@@ -843,6 +1010,7 @@ static Suite *rokdaum_suite(void)
     tcase_add_test(all, flushes_and_discontinuities);
     tcase_add_test(all, what_the_fuzz_found);
     tcase_add_test(all, times_of_listeners);
+    tcase_add_test(all, listeners_of_two_ends);
     tcase_add_test(all, times_behind_a_gap);
     tcase_add_test(all, frames_of_a_digit);
     tcase_add_test(all, elements_of_a_host_agree);

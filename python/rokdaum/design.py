@@ -1,5 +1,6 @@
 # SPDX-License-Identifier: Apache-2.0
-"""Filters, gains, detectors of tones and of dialled digits in words, with the response that the rounded words of filters have.
+"""Filters, gains, detectors and generators of tones and of dialled digits, and echo cancellers in words, with the response that the rounded words of
+filters have.
 
 Frequencies are in Hz, `rate` is the samples a second. A word of Q14 is 16384 times its value, and goes from -2 to just below 2; one of Q15 is
 32768 times its value, from -1 to just below 1. scipy designs, and this module scales, rounds and says what saturates.
@@ -42,6 +43,24 @@ KEYS, NO_DIGIT = "123A456B789C*0#D", -1
 # Words that are recommended for a detector of digits, and how many frames in a row have one until it counts.
 DTMF_SETS = {"a": ((102, 7, 91, 2920, 7336, 5827, 22938), 2), "b": ((92, 7, 82, 2920, 7336, 9235, 20316), 3)}
 FRAMES_OFF = 2
+# The tones of the keys' rows and columns in Hz (ITU-T Q.23), and how long one sounds and pauses in seconds.
+ROWS, COLUMNS, KEY_SECONDS = (697, 770, 852, 941), (1209, 1336, 1477, 1633), (0.1, 0.1)
+# Call progress tones: the frequencies in Hz, and the seconds on and off, none of which are a tone without an end. Those of North America, of most of
+# Europe, and of the United Kingdom, by ITU-T E.180 and its supplement 2.
+PROGRESS_TONES = {
+    "us-dial": ((350, 440), None),
+    "us-busy": ((480, 620), (0.5, 0.5)),
+    "us-congestion": ((480, 620), (0.25, 0.25)),
+    "eu-dial": ((425,), None),
+    "eu-busy": ((425,), (0.5, 0.5)),
+    "eu-congestion": ((425,), (0.25, 0.25)),
+    "uk-dial": ((350, 450), None),
+    "uk-busy": ((400,), (0.375, 0.375)),
+}
+# A generator's cycle has at most so many samples, and a feed.
+MOST_CYCLE, MOST_FEED = 32767, 1024
+# The most coefficients of an echo canceller.
+MOST_ECHO = 256
 # Frequencies at which gains are looked at, from 0 to half of the rate.
 GRID = np.linspace(0, np.pi, 2049)
 # An impulse response is summed up until its poles have let it fall this far.
@@ -367,6 +386,120 @@ class Digits(OneInstance):
         return "".join(found)
 
 
+@dataclass(frozen=True)
+class Signal:
+    """A tone or two with a cadence: `words` are k1 s1 k2 s2 on off count of a `signal`."""
+
+    name: str
+    words: tuple[int, ...]
+    rate: float
+
+    @property
+    def frequencies(self) -> tuple[float, ...]:
+        """The frequencies in Hz that the words have."""
+        return tuple(math.acos(k / Q15) * self.rate / (2 * math.pi) for k, s in (self.words[0:2], self.words[2:4]) if s)
+
+    @property
+    def cycle(self) -> int:
+        """The samples of a cycle, those that sound and those that don't."""
+        return self.words[4] + self.words[5]
+
+
+@dataclass(frozen=True)
+class Signals:
+    """Generators of named tones. One is an instance in a channel; several sound one after the other, each by the feeds of its cycle."""
+
+    parts: tuple[Signal, ...]
+
+    @property
+    def creations(self) -> tuple[Creation, ...]:
+        """The kind and the words of each instance: one for each name that is another."""
+        return tuple(("signal", one.words) for one in dict.fromkeys(self.parts))
+
+    def warnings(self) -> list[str]:
+        """What saturates."""
+        return [f"{one.name}: two tones of a peak past half of full scale saturate together" for one in dict.fromkeys(self.parts) if peak_of(one) > Q15]
+
+    def lines(self, first: int = 0, group: int = 0, channel: int = 0, share: bool = True) -> list[str]:
+        """The lines of a script. Of several tones the feeds are among them, so that the input, the clock, has to have so many samples: `samples`."""
+        look_at_places(first, group, channel, len(self.creations))
+        made = [create(first + at, group, *one) for at, one in enumerate(self.creations)]
+        if len(self.parts) == 1:
+            return [*made, chain(channel, [first])]
+        places = {one: first + at for at, one in enumerate(dict.fromkeys(self.parts))}
+        return made + [line for one in self.parts for line in sounded(one, places[one], channel)]
+
+    @property
+    def samples(self) -> int:
+        """How many samples one cycle of each takes."""
+        return sum(one.cycle for one in self.parts)
+
+
+@dataclass(frozen=True)
+class Echo(OneInstance):
+    """A line echo canceller: `words` are N step share hold."""
+
+    words: tuple[int, ...]
+    rate: float
+
+    @property
+    def creations(self) -> tuple[Creation, ...]:
+        """The kind and the words of the instance."""
+        return (("echo", self.words),)
+
+    @property
+    def milliseconds(self) -> float:
+        """How long an echo may come behind its sound."""
+        return 1000 * self.words[0] / self.rate
+
+
+@dataclass(frozen=True)
+class Activity(OneInstance):
+    """A detector of voice activity: `words` are N s margin rise least hang."""
+
+    words: tuple[int, ...]
+    rate: float
+
+    @property
+    def creations(self) -> tuple[Creation, ...]:
+        """The kind and the words of the instance."""
+        return (("activity", self.words),)
+
+    @property
+    def margin(self) -> float:
+        """By how many dB a frame with speech exceeds the floor."""
+        return 10 * math.log10(2.0 ** self.words[2])
+
+    @property
+    def rise(self) -> float:
+        """By how many dB the floor rises in a second."""
+        return rise_of(self.words[3]) * self.rate / self.words[0]
+
+    @property
+    def least(self) -> float:
+        """The level of the least floor in dB of full scale, that of a square wave."""
+        energy = max(self.words[4], 1) * 2.0 ** self.words[1] / (2 * self.words[0])
+        return 10 * math.log10(energy / Q15**2)
+
+
+def rise_of(bits: int) -> float:
+    """By how many dB a floor rises in a frame that rises by 2^-bits of itself."""
+    return 10 * math.log10(1 + 2.0**-bits)
+
+
+def sounded(one: Signal, instance: int, channel: int) -> list[str]:
+    """The lines that let a generator sound once, from its beginning."""
+    whole, rest = divmod(one.cycle, MOST_FEED)
+    feeds = [f"feed {channel} {MOST_FEED}"] * whole + ([f"feed {channel} {rest}"] if rest else [])
+    return [f"control {instance} reset", chain(channel, [instance]), *feeds, f"unchain {channel}"]
+
+
+def peak_of(one: Signal) -> float:
+    """The peaks of a generator's tones together, in samples."""
+    turns = [math.acos(k / Q15) for k in (one.words[0], one.words[2])]
+    return sum(abs(s) / math.sin(turn) for s, turn in zip((one.words[1], one.words[3]), turns) if s)
+
+
 def create(instance: int, group: int, kind: str, words: Sequence[int]) -> str:
     """The line that creates an instance."""
     return f"create {instance} {kind} {group} {' '.join(map(str, words))}"
@@ -664,3 +797,87 @@ def dtmf(recommended: str = "a") -> Digits:
         raise DesignError(f"the words of a detector of digits are {' or '.join(DTMF_SETS)}, and not {recommended}")
     words, frames_on = DTMF_SETS[recommended]
     return Digits(words, frames_on, FRAMES_OFF)
+
+
+def signal(names: str | Sequence[str], level: float = -10.0, rate: float = DEFAULT_RATE, on: float | None = None, off: float | None = None) -> Signals:
+    """Generators of tones by their names: keys of a telephone (`"5"`, or several as `"0123"`), or one of PROGRESS_TONES (`"us-busy"`).
+
+    Each tone has a peak of `level` dB of full scale. `on` and `off`, in seconds, are those of the name unless given. A key sounds once, a call progress tone
+    without an end: `host.create("signal", params=design.signal("us-dial"))`. Raises DesignError.
+    """
+    given = [names] if isinstance(names, str) and names.lower() in PROGRESS_TONES else list(names)
+    if not given:
+        raise DesignError("no tone is named")
+    return Signals(tuple(one_signal(name, level, rate, on, off) for name in given))
+
+
+def one_signal(name: str, level: float, rate: float, on: float | None, off: float | None) -> Signal:
+    """The tone of one name."""
+    key = KEYS.find(name.upper()) if len(name) == 1 else -1
+    if key < 0 and name.lower() not in PROGRESS_TONES:
+        raise DesignError(f"a tone is a key of {KEYS}, or {', '.join(PROGRESS_TONES)}, and not {name}")
+    where, times = ((ROWS[key // 4], COLUMNS[key % 4]), KEY_SECONDS) if key >= 0 else PROGRESS_TONES[name.lower()]
+    peak = 10 ** (level / 20) * Q15
+    if not 1 <= peak <= 32767:
+        raise DesignError(f"a tone has a peak of -90 to 0 dB of full scale, and {level:g} is asked for")
+    words = [word for frequency in (*where, *(None,) * (2 - len(where))) for word in tone_words(frequency, peak, rate)]
+    if times is None and on is None and off is None:
+        return Signal(name, (*words, seamless(words, rate), 0, 0), rate)
+    return Signal(name, (*words, *cadence(name, times or (1.0, 0.0), rate, on, off), 1 if key >= 0 else 0), rate)
+
+
+def tone_words(frequency: float | None, peak: float, rate: float) -> tuple[int, int]:
+    """Twice the cosine of the angle by which a tone turns in a sample, in Q14, and its second sample; 0 0 for no tone."""
+    if frequency is None:
+        return 0, 0
+    look_at_edges([frequency], rate)
+    k = min(32767, round(Q15 * math.cos(2 * math.pi * frequency / rate)))
+    return k, round(peak * math.sin(math.acos(k / Q15)))
+
+
+def seamless(words: Sequence[int], rate: float) -> int:
+    """The samples of a cycle that is nearest to whole turns of its tones, so that the next one goes on where it ends."""
+    counts = np.arange(MOST_CYCLE // 2, MOST_CYCLE + 1)
+    turns = [math.acos(k / Q15) / (2 * math.pi) * counts for k, s in (words[0:2], words[2:4]) if s]
+    return int(counts[np.argmin(sum(np.abs(it - np.round(it)) for it in turns))])
+
+
+def cadence(name: str, times: tuple[float, float], rate: float, on: float | None, off: float | None) -> tuple[int, int]:
+    """The samples on and off."""
+    seconds = [own if asked is None else asked for asked, own in zip((on, off), times)]
+    samples = [round(rate * it) for it in seconds]
+    if min(samples) < 0 or samples[0] < 1 or sum(samples) > MOST_CYCLE:
+        raise DesignError(f"{name}: a cycle has 1 to {MOST_CYCLE} samples, {MOST_CYCLE / rate:.2f} s, of which one sounds, and {seconds[0]:g} s on and {seconds[1]:g} s off are asked for")
+    return samples[0], samples[1]
+
+
+def echo(milliseconds: float = 16.0, step: float = 0.25, share: float = 0.5, hold: float = 30.0, rate: float = DEFAULT_RATE) -> Echo:
+    """A line echo canceller for echoes that come up to so many milliseconds behind their sound: 32 at 8,000 samples a second.
+
+    It learns by steps of `step`, and not while the near end is louder than `share` of what the far end was of late, nor for `hold` milliseconds after that.
+    Raises DesignError.
+    """
+    taps, held = round(milliseconds * rate / 1000), round(hold * rate / 1000)
+    if not 1 <= taps <= MOST_ECHO:
+        raise DesignError(f"an echo canceller has 1 to {MOST_ECHO} coefficients, {1000 * MOST_ECHO / rate:g} ms, and {milliseconds:g} ms are {taps}")
+    if not (0 <= step < 1 and 0 <= share < 1 and 0 <= held <= 32767):
+        raise DesignError(f"a step and a share are 0 to just below 1, a hold is 0 to {32767000 / rate:g} ms, and {step:g}, {share:g} and {hold:g} are asked for")
+    return Echo((taps, min(32767, round(step * Q15)), min(32767, round(share * Q15)), held), rate)
+
+
+def activity(frame: float = 10.0, margin: float = 9.0, rise: float = 3.0, least: float = -70.0, hang: float = 150.0, rate: float = DEFAULT_RATE) -> Activity:
+    """A detector of voice activity over frames of so many milliseconds.
+
+    A frame has speech where its level is `margin` dB above the floor, or more, and so have the frames of `hang` milliseconds behind it. The floor follows the
+    quietest frames: it rises by about `rise` dB a second, and is at least `least` dB of full scale. Margin and rise are rounded to powers of two. No frame
+    saturates. Raises DesignError.
+    """
+    samples = round(frame * rate / 1000)
+    if not 1 <= samples <= 1024:
+        raise DesignError(f"a frame has 1 to 1024 samples, {1024000 / rate:g} ms, and {frame:g} ms are {samples}")
+    bits, shift, held = round(margin / (10 * math.log10(2))), (samples - 1).bit_length(), round(hang / frame)
+    floor = round(2 * samples * 10 ** (least / 10) * Q15**2 / 2**shift)
+    if not (0 <= bits <= 15 and 0 < rise and 0 <= floor <= 32767 and 0 <= held <= 32767):
+        raise DesignError(f"a margin is 0 to 46 dB, a rise above 0, a least floor up to -48 dB, and {margin:g}, {rise:g}, {least:g} and a hangover of {hang:g} ms are asked for")
+    rises = min(range(16), key=lambda it: abs(rise_of(it) * rate / samples - rise))
+    return Activity((samples, shift, bits, rises, floor, held), rate)

@@ -15,7 +15,7 @@ LONGEST_LINE = 1024
 LONGEST_FEED = 1024
 # The kinds of dsp_console, and those that gateway_console and the C library have beside them.
 KINDS = ("fir", "decim", "biquad", "tone", "g711")
-GATEWAY_KINDS = ("gain", "level", "dtmf", "echo", "adpcm", "signal")
+GATEWAY_KINDS = ("gain", "level", "dtmf", "echo", "adpcm", "signal", "activity")
 SPACES = ("daram", "saram", "external")
 FORMS = {
     "create": "create I KIND G W ..",
@@ -42,10 +42,11 @@ PARAMETERS = {
     "echo": "N (1 to 256), the step in Q15, the share in Q15 and the pairs of a hold",
     "adpcm": "the kbit/s (16, 24, 32 or 40) and the direction (0 encodes, 1 decodes)",
     "signal": "the seven words k1 s1 k2 s2 on off count",
+    "activity": "N (1 to 1024), s, the margin and the rise (0 to 15 each), the least floor and the frames of the hangover",
 }
 SET_TAKES = {"fir": "as many coefficients as it has", "biquad": "five words", "tone": "one word, k", "gain": "one word, the factor"}
 # Where the words of a kind that divides have the samples that it takes for one that it gives.
-DIVISOR_AT = {"decim": 0, "tone": 1, "level": 0, "dtmf": 0}
+DIVISOR_AT = {"decim": 0, "tone": 1, "level": 0, "dtmf": 0, "activity": 0}
 # A kind that takes samples by pairs.
 PAIRS = ("echo",)
 

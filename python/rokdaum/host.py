@@ -1,5 +1,5 @@
 # SPDX-License-Identifier: Apache-2.0
-"""A host of signal algorithms in the process: instances of eleven algorithms in three memory spaces, fed with arrays of int16.
+"""A host of signal algorithms in the process: instances of twelve algorithms in three memory spaces, fed with arrays of int16.
 
     with rokdaum.Host(daram=4096) as host:
         half = host.create("fir", params=[16384])
@@ -47,6 +47,7 @@ Q_OF_KIND = {
     "echo": "the step and the share are words of Q15: round(32768 * value)",
     "adpcm": "the kbit/s are 16, 24, 32 or 40, the direction 0 (encodes) or 1 (decodes)",
     "signal": "k is round(32768 * cos(a)) and s round(32768 * amplitude * sin(a)), a = 2 * pi * frequency / rate",
+    "activity": "a frame is 1 to 1,024 samples, the shift, the margin and the rise are 0 to 15 bits",
 }
 
 
@@ -120,7 +121,7 @@ class Instance:
         """What it tells of itself, as int16 of shape (words,). Raises Missing.
 
         The coefficients of a FIR or a biquad, the factor of a gain; the samples since a decimator's last output; the samples in the frame of a tone, a
-        meter or a detector of digits; the law and the direction of G.711; the samples of an echo canceller's pair; the parameters of G.726 or a generator.
+        meter, a detector of digits or of voice activity; the law and the direction of G.711; the samples of an echo canceller's pair; the parameters of G.726 or a generator.
         """
         words, count = (c_int16 * PARAMETER_WORDS)(), c_uint32()
         self.host._own(self)
@@ -149,7 +150,7 @@ class Line:
         """Passes samples through the members, and returns what the last one gives.
 
         `samples` has shape (samples,) and any length; whole numbers of any type, -32768 to 32767, each 1 / 32768 of full scale. The answer is int16 of
-        shape (given,): one for each sample, behind a decimator by M one for M, behind an echo one for two, behind a tone, a level or a dtmf one for each frame. G.711 takes and gives codes,
+        shape (given,): one for each sample, behind a decimator by M one for M, behind an echo one for two, behind a tone, a level, a dtmf or an activity one for each frame. G.711 takes and gives codes,
         0 to 255, as numbers. What a member has heard stays, so the cut of a signal into calls doesn't show in what is given.
 
         Raises FloatsRefused for floats, OutOfRange for another shape or for numbers that don't fit, and Missing; nothing was fed then.
@@ -236,6 +237,7 @@ class Host:
         - `echo`: 1 to 256 coefficients, the step and the share in Q15, and for how many pairs it then doesn't learn; it takes pairs, the far end's sample first
         - `adpcm`: 16, 24, 32 or 40 kbit/s, then 0 to encode or 1 to decode
         - `signal`: k1 s1 k2 s2 of two tones, the samples on and off, and the number of cycles, 0 without end
+        - `activity`: the frame in samples, 1 to 1,024, the shift, the margin and the rise, 0 to 15 each, the least floor, and the frames of the hangover
 
         Raises Room, with the space that is full, Params, Taken where the number lives or none is free, Range for a number, a group or a word that
         is too large, BadLength for more than 72 words, BadKind, and FloatsRefused for floats.

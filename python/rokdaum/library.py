@@ -27,7 +27,7 @@ NAME = "librokdaum.so"
 # The limits of rokdaum.h.
 SPACE_WORDS, INSTANCES, GROUPS, CHANNELS, PARAMETER_WORDS, MAP_BLOCKS = 65536, 64, 8, 16, 72, 264
 # The order of rokdaum_kind and of rokdaum_space.
-KINDS = ("fir", "decim", "biquad", "tone", "g711", "gain", "level", "dtmf", "echo", "adpcm", "signal")
+KINDS = ("fir", "decim", "biquad", "tone", "g711", "gain", "level", "dtmf", "echo", "adpcm", "signal", "activity")
 SPACES = ("daram", "saram", "external")
 # rokdaum_law.
 LAWS = {"a": 0, "mu": 1}

@@ -27,8 +27,8 @@ def wants_of(kind: str, words: Sequence[int]) -> list[Want]:
     taps = len(words) - (kind == "decim")
     lines = words[0] if words else 0
     scratch = {"fir": (taps + 1023, 16), "decim": (taps + 1023, 16), "biquad": (4, 4), "tone": (3, 4), "gain": (1, 4), "level": (3, 4), "dtmf": (19, 4)}
-    scratch |= {"echo": (4 * lines + 13, 4), "adpcm": (25, 4), "signal": (6, 4)}
-    state = {"fir": 2 * taps - 1, "decim": taps, "biquad": 9, "tone": 6, "gain": 1, "level": 5, "dtmf": 26, "echo": 4 * lines + 17, "adpcm": 27, "signal": 13}
+    scratch |= {"echo": (4 * lines + 13, 4), "adpcm": (25, 4), "signal": (6, 4), "activity": (lines + 5, 4)}
+    state = {"fir": 2 * taps - 1, "decim": taps, "biquad": 9, "tone": 6, "gain": 1, "level": 5, "dtmf": 26, "echo": 4 * lines + 17, "adpcm": 27, "signal": 13, "activity": lines + 11}
     if kind not in state and kind != "g711":
         return []
     found = [Want("external", "r0", 4, 4)]

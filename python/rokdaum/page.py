@@ -32,6 +32,7 @@ ROLES = {
     "echo": {"1": "its parameters, the line and its coefficients, kept while it is idle"},
     "adpcm": {"1": "its parameters and the state of G.726, kept while it is idle"},
     "signal": {"1": "its parameters, its tones and their place in the cadence, kept while it is idle"},
+    "activity": {"1": "its parameters, the samples of the frame, the floor and the hangover, kept while it is idle"},
 }
 def missing_room(history: History, said: Sequence[Said]) -> dict[int, list[list[Any]]]:
     """For each step whose creation had no room: [space, owner, words, alignment, sentence] of each want that found no place."""

@@ -180,17 +180,17 @@ def names_gateway_kinds(lines: Sequence[Line]) -> bool:
 
 
 def find_program(named: str | None = None, name: str = "dsp_console") -> list[str]:
-    """The words that start `dsp_console`, or the program of this name: those named, else those of DSP_CONSOLE, else the command of this repository, else the
-    one on PATH.
+    """The words that start `dsp_console`, or `gateway_console`: those named, else those of DSP_CONSOLE (GATEWAY_CONSOLE), else the command of this
+    repository, else the one on PATH.
 
     Raises ProgramMissing where there is none.
     """
-    words = shlex.split(named or os.environ.get("DSP_CONSOLE") or "")
+    words = shlex.split(named or os.environ.get(name.upper()) or "")
     if not words and os.access(REPOSITORY / name, os.X_OK):
         words = [str(REPOSITORY / name)]
     words = words or [name]
     if not shutil.which(words[0]):
-        raise ProgramMissing(f"{words[0]}: there is no such program: name {name} by --program or by DSP_CONSOLE")
+        raise ProgramMissing(f"{words[0]}: there is no such program: name {name} by --program or by {name.upper()}")
     return words
 
 

@@ -51,8 +51,10 @@ class Calls:
 
     def control(self, number: int, what: str, *words: int) -> Sequence:
         one = self.host.instance(number)
-        found = {"set": lambda: one.set(words), "reset": one.reset, "get": one.get}[what]()
-        return () if found is None else found
+        if what == "get":
+            return one.get().tolist()
+        one.set(words) if what == "set" else one.reset()
+        return ()
 
     def delete(self, number: int) -> Sequence:
         self.host.instance(number).delete()
@@ -119,13 +121,14 @@ def differences(made: RandomCase, counted: Counter[str]) -> list[str]:
         for line, wanted in zip(made.script.lines, made.script.answers):
             if wanted is None or wanted in OF_LINES:
                 continue
-            verb, *words = [int(it) if it.lstrip("-").isdigit() else it for it in (word.decode() for word in words_of(line))]
-            if verb == "feed" and not 1 <= words[1] <= LONGEST_FEED:
+            verb, *texts = [word.decode() for word in words_of(line)]
+            words: list[int | str] = [int(it) if it.lstrip("-").isdigit() else it for it in texts]
+            if verb == "feed" and not 1 <= int(texts[1]) <= LONGEST_FEED:
                 continue  # a call takes any number of samples
             reply = calls.reply(verb, words)
             counted.update([verb, "refused" if reply.startswith("no") else "granted"])
             if verb == "create" and reply == "ok":
-                counted[words[1]] += 1
+                counted[texts[1]] += 1
             if not agrees(reply, wanted, verb):
                 found.append(f"{line!r}: {reply}, and the model says {wanted}")
         for channel, data in enumerate(made.served.outputs):

@@ -1,7 +1,7 @@
 # SPDX-License-Identifier: Apache-2.0
 """What the tests stand on: the package beside this folder, the built program, and a folder of their own.
 
-DSP_CONSOLE names the words that start the program; else it is the one that ./dsp_console builds.
+DSP_CONSOLE and GATEWAY_CONSOLE name the words that start the programs; else they are those that ./dsp_console and ./gateway_console build.
 """
 
 from __future__ import annotations
@@ -13,6 +13,7 @@ import sys
 import tempfile
 import unittest
 from pathlib import Path
+from typing import Any
 
 sys.dont_write_bytecode = True
 PYTHON = Path(__file__).resolve().parent.parent
@@ -31,11 +32,18 @@ from signals import noise, tone  # noqa: E402, F401  (the tests take them from h
 from rokdaum.script import Pair, Result, Settings, parse, run  # noqa: E402
 
 PATIENCE = 120
-BUILT = REPOSITORY / "crates" / "dsp_console_main" / "out" / "dsp_console_main"
-os.environ["DSP_CONSOLE"] = PROGRAM = os.environ.get("DSP_CONSOLE") or shlex.quote(str(BUILT))
-# A test never starts a build.
-if shlex.split(PROGRAM)[0] == str(BUILT) and not BUILT.is_file():
-    sys.exit(f"{BUILT} isn't built: ./dsp_console builds it, or name another program by DSP_CONSOLE")
+
+
+def named(name: str, crate: str) -> str:
+    """The words that start a program, which are set for the commands too. A test never starts a build."""
+    built = REPOSITORY / "crates" / crate / "out" / crate
+    words = os.environ.setdefault(name.upper(), shlex.quote(str(built)))
+    if shlex.split(words)[0] == str(built) and not built.is_file():
+        sys.exit(f"{built} isn't built: ./{name} builds it, or name another program by {name.upper()}")
+    return words
+
+
+PROGRAM, GATEWAY = named("dsp_console", "dsp_console_main"), named("gateway_console", "gateway_console")
 
 
 class Case(unittest.TestCase):
@@ -62,7 +70,7 @@ class Case(unittest.TestCase):
         """Files that a run should have removed."""
         return sorted(path.name for path in self.room.iterdir() if path.name.startswith("."))
 
-    def run_text(self, text: str, *names: str, settings: Settings = Settings(), **how) -> Result:
+    def run_text(self, text: str, *names: str, settings: Settings = Settings(), **how: Any) -> Result:
         """Runs a script over files of the test's folder."""
         pairs = [Pair(self.room / source, self.room / target) for source, target in zip(names[::2], names[1::2])]
         return run(parse(text), pairs, settings, **how)
@@ -77,7 +85,7 @@ class Case(unittest.TestCase):
 
     def command(self, name: str, *words: str, given: str | None = None, python: str | None = None) -> subprocess.CompletedProcess[str]:
         """A command of `bin` in the test's folder."""
-        how = {"input": given} if given is not None else {"stdin": subprocess.DEVNULL}
+        stdin = subprocess.DEVNULL if given is None else None
         return subprocess.run(
-            [python or sys.executable, str(PYTHON / "bin" / name), *words], cwd=self.room, capture_output=True, text=True, timeout=PATIENCE, check=False, **how
+            [python or sys.executable, str(PYTHON / "bin" / name), *words], cwd=self.room, input=given, stdin=stdin, capture_output=True, text=True, timeout=PATIENCE, check=False
         )

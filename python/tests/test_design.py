@@ -69,7 +69,7 @@ class Responses(unittest.TestCase):
 class Overflow(Case):
     """What is said to saturate nothing doesn't, in the program; and what is said to saturate does."""
 
-    def error(self, made, given: np.ndarray) -> float:
+    def error(self, made: design.Biquads | design.Fir, given: np.ndarray) -> float:
         """The largest difference between the program's output and the words' filter in floats."""
         (gave,), _ = process("\n".join([*made.lines(), "feed 0 all"]), given)
         exact = signal.sosfilt(made.sections, given.astype(float)) if isinstance(made, design.Biquads) else signal.lfilter(np.array(made.words) / 32768, 1, given.astype(float))
@@ -151,6 +151,79 @@ class Tones(Case):
         self.assertIn("saturates", design.tones([1633], 102, 6, rate=4000).warnings()[0])
         self.assertIn("the nearest k is that of", " ".join(design.tones([7], 1024).warnings()))
         self.assertIn("has level 0", " ".join(design.tones([1000], 50, 12).warnings()))
+
+
+class Generators(Case):
+    """Tones by name, and echo cancellers."""
+
+    def test_frequencies_of_names(self) -> None:
+        for name, (frequencies, times) in design.PROGRESS_TONES.items():
+            one = design.signal(name).parts[0]
+            with self.subTest(name=name):
+                np.testing.assert_allclose(one.frequencies, frequencies, atol=0.1)
+                self.assertEqual(one.words[6], 0)
+                if times:
+                    self.assertEqual(one.words[4:6], tuple(round(8000 * it) for it in times))
+        for at, key in enumerate(design.KEYS):
+            one = design.signal(key).parts[0]
+            np.testing.assert_allclose(one.frequencies, (design.ROWS[at // 4], design.COLUMNS[at % 4]), atol=0.1)
+            self.assertEqual(one.words[4:], (800, 800, 1))
+
+    def test_levels_and_seams(self) -> None:
+        """The tone that is asked for in each sample, at its seams too."""
+        for name, frequencies, level in (("us-dial", (350, 440), -10), ("eu-dial", (425,), -20), ("5", (770, 1336), -13)):
+            made = design.signal(name, level)
+            words = made.parts[0].words
+            count = words[4] + 400 if name != "5" else 800
+            (gave,), _ = process("\n".join([*made.lines(), "feed 0 all"]), np.zeros(count, np.int16))
+            exact = np.zeros(count)
+            for frequency in made.parts[0].frequencies:
+                exact += 32768 * 10 ** (level / 20) * np.sin(2 * np.pi * frequency * np.arange(count) / 8000)
+            error = np.abs(gave - exact)
+            with self.subTest(name=name):
+                self.assertLess(np.sqrt(np.mean(error[:800] ** 2)), 0.01 * np.abs(exact).max())
+                self.assertLess(abs(20 * np.log10(np.std(gave[: words[4]]) / np.std(exact[: words[4]]))), 0.2)
+
+    def test_dialled(self) -> None:
+        """What a detector finds is what was dialled."""
+        digits = "0123456789*#ABCD558"
+        made = design.signal(digits)
+        self.assertEqual((len(made.creations), made.samples), (16, 1600 * len(digits)))
+        (gave,), result = process("\n".join(made.lines()), np.zeros(made.samples, np.int16))
+        self.assertTrue(all(reply.startswith("ok") for reply in result.replies), result.replies)
+        (codes,), _ = process("\n".join([*design.dtmf().lines(), "feed 0 all"]), gave)
+        self.assertEqual(design.dtmf().dialled(codes), digits)
+
+    def test_commands(self) -> None:
+        for words, lines in (
+            (["signal", "55"], design.signal("55").lines()), (["signal", "us-busy", "--level", "-20"], design.signal("us-busy", -20).lines()),
+            (["signal", "1", "--on", "50", "--off", "60", "--first", "4", "--channel", "1"], design.signal("1", on=0.05, off=0.06).lines(4, 0, 1)),
+            (["echo"], ["create 0 echo 0 128 8192 16384 240", "chain 0 0"]), (["activity"], design.activity().lines()), (["activity", "--ms", "20", "--margin", "6", "--rate", "16000"], design.activity(20, 6, rate=16000).lines()), (["echo", "--ms", "32", "--step", "0.5", "--loud", "0.25", "--hold", "10"], ["create 0 echo 0 256 16384 8192 80", "chain 0 0"]),
+        ):
+            done = self.command("dsp_design", *words)
+            self.assertEqual((done.stdout.splitlines(), done.returncode), (lines, 0), done.stderr)
+            self.assertTrue(done.stderr)
+        self.assertIn("saturate", self.command("dsp_design", "signal", "5", "--level", "-3").stderr)
+
+    def test_activity(self) -> None:
+        """A second of noise at -50 dB, half a second of a tone 30 dB above it, and noise again: the tone and its hangover are speech."""
+        made = design.activity()
+        self.assertEqual(made.creations, (("activity", (80, 7, 3, 7, 134, 15)),))
+        self.assertAlmostEqual(made.margin, 9, delta=0.1)
+        self.assertAlmostEqual(made.rise, 3.4, delta=0.1)
+        self.assertAlmostEqual(made.least, -70, delta=0.1)
+        heard = noise(20000, peak=180).astype(int)
+        heard[8000:12000] += tone(500, 4600, 4000)
+        (gave,), _ = process("\n".join([*made.lines(), "feed 0 all"]), heard.astype(np.int16))
+        np.testing.assert_array_equal(gave, np.array([100 <= at < 150 + 15 for at in range(250)], np.int16))
+
+    def test_echo(self) -> None:
+        """After a second the far end's echo is 20 dB below what it was."""
+        far = noise(16000)
+        near = np.concatenate([np.zeros(30, np.int16), far[:-30] // 4])
+        (gave,), _ = process("\n".join([*design.echo().lines(), "feed 0 all"]), np.ravel(np.column_stack([far, near])).astype(np.int16))
+        self.assertEqual(len(gave), len(near))
+        self.assertLess(np.std(gave[8000:].astype(float)), 0.1 * np.std(near[8000:].astype(float)))
 
 
 class Own(Case):
@@ -236,6 +309,15 @@ class Refused(unittest.TestCase):
             (lambda: design.band(300, 3400).lines(group=6), "share"),
             (lambda: design.band(300, 3400).lines(first=62), "instances are 0 to 63"),
             (lambda: design.tones([500] * 2).lines(channel=15), "a tone takes a channel"),
+            (lambda: design.signal("5x"), "a tone is a key"),
+            (lambda: design.signal(""), "no tone"),
+            (lambda: design.signal("5", 1), "-90 to 0 dB"),
+            (lambda: design.signal("5", on=0), "of which one sounds"),
+            (lambda: design.signal("us-busy", off=4), "32767 samples"),
+            (lambda: design.echo(33), "1 to 256 coefficients"),
+            (lambda: design.echo(step=1), "just below 1"),
+            (lambda: design.activity(200), "1 to 1024 samples"),
+            (lambda: design.activity(margin=60), "a margin is 0 to 46"),
             (lambda: design.biquads(np.ones((2, 5))), "shape"),
             (lambda: design.notch(50, 9000), "width"),
         ):

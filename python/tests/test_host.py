@@ -8,6 +8,7 @@ SEED seeds the random scripts.
 
 from __future__ import annotations
 
+import functools
 import gc
 import io
 import os
@@ -15,8 +16,9 @@ import subprocess
 import sys
 import tempfile
 import threading
-from collections.abc import Callable
+from collections.abc import Callable, Iterable
 from pathlib import Path
+from typing import Any
 from unittest import mock
 
 from library_case import PYTHON, REPOSITORY, LibraryCase
@@ -26,7 +28,7 @@ import numpy as np
 import rokdaum
 from calls import random_differences
 from rokdaum import Host, design, errors, g711, library, maps, operators
-from rokdaum.host import Line, options_of
+from rokdaum.host import Design, Line, options_of
 from rokdaum.errors import FloatsRefused, Missing, OutOfRange
 from rokdaum_model import companding
 from rokdaum_model import operators as model
@@ -39,6 +41,11 @@ SEED = os.environ.get("SEED", "1")
 PATIENCE = 60
 # What memory of the process may grow by, in bytes, where nothing is leaked: less than one host takes, or a thousandth of what would leak.
 GROWTH = 400_000
+
+
+def wrong(value: object) -> Any:
+    """A value that a call isn't to be given by its types, to see how it is refused."""
+    return value
 
 
 def resident() -> int:
@@ -55,8 +62,8 @@ def shown(host: Host) -> list:
 
 def create_and_delete(times: int) -> int:
     """Makes instances of each kind, refused ones and chains so many times, and deletes them; how many bytes the process grew by."""
-    params = {"fir": [16384, 1], "decim": [2, 16384], "biquad": [8192, 0, 0, 0, 0], "tone": [27980, 102, 8], "g711": [1, 1], "gain": [4096], "level": [160, 4], "dtmf": design.dtmf()}
-    params |= {"echo": [4, 8192, 16384, 240], "adpcm": [32, 0], "signal": [0, 0, 0, 0, 2, 1, 1]}
+    params: dict[str, Iterable[int] | Design] = {"fir": [16384, 1], "decim": [2, 16384], "biquad": [8192, 0, 0, 0, 0], "tone": [27980, 102, 8], "g711": [1, 1], "gain": [4096], "level": [160, 4], "dtmf": design.dtmf()}
+    params |= {"echo": [4, 8192, 16384, 240], "adpcm": [32, 0], "signal": [0, 0, 0, 0, 2, 1, 1], "activity": [40, 6, 3, 6, 320, 5]}
     with Host(daram=2048, saram=64) as host:
         for at in range(times):
             if at == times // 10:
@@ -99,7 +106,7 @@ class Refusals(LibraryCase):
 
     def test_each_refusal(self) -> None:
         host, fir, line, gone = self.host, self.fir, self.line, self.gone
-        for wanted, text, call in (
+        calls: tuple[tuple[type[Exception], str, Callable[[], object]], ...] = (
             (errors.Range, "0 to 63, and 64", lambda: host.create("fir", 0, [1], 64)),
             (errors.Range, "0 to 7, and 8", lambda: host.create("fir", 8, [1])),
             (errors.Range, "0 to 7, and 256", lambda: host.create("fir", 256, [1])),
@@ -130,15 +137,16 @@ class Refusals(LibraryCase):
             (errors.Command, "as many coefficients as it has", lambda: fir.set([1])),
             (errors.BadLength, "too many", lambda: host.create("fir", 0, [1] * 73)),
             (errors.BadLength, "1 to 8 members", host.chain),
-            (errors.BadKind, "fir, decim, biquad, tone, g711, gain, level, dtmf, echo, adpcm, signal, and not iir", lambda: host.create("iir", 0, [1])),
+            (errors.BadKind, "fir, decim, biquad, tone, g711, gain, level, dtmf, echo, adpcm, signal, activity, and not iir", lambda: host.create("iir", 0, [1])),
             (errors.BadSpace, "daram, saram, external, and not rom", lambda: host.map("rom")),
             (errors.BadSpace, "not rom", lambda: host.step("rom")),
             (errors.BadSpace, "not rom", lambda: host.compact("rom")),
             (errors.OutOfRange, "70000", lambda: line.feed([70000])),
             (errors.OutOfRange, "shape", lambda: line.feed(np.zeros((2, 2), np.int16))),
-            (TypeError, "integer", lambda: host.create("fir", 0.0, [1])),
-            (TypeError, "iterable", lambda: host.create("fir", 0, 1)),
-        ):
+            (TypeError, "integer", lambda: host.create("fir", wrong(0.0), [1])),
+            (TypeError, "iterable", lambda: host.create("fir", 0, wrong(1))),
+        )
+        for wanted, text, call in calls:
             with self.subTest(text=text):
                 self.refuse(wanted, text, call)
 
@@ -173,9 +181,9 @@ class Refusals(LibraryCase):
     def test_floats(self) -> None:
         for kind, text in (("fir", r"round\(32768 \* value\)"), ("decim", "32768"), ("biquad", r"round\(16384 \* value\)"), ("tone", "cos"), ("g711", "law"), ("gain", r"round\(4096 \* value\)"), ("level", "1,024"), ("dtmf", r"design.dtmf\(\)")):
             with self.subTest(kind=kind):
-                self.refuse(errors.FloatsRefused, text, lambda: self.host.create(kind, 0, [0.5, 1]))
+                self.refuse(errors.FloatsRefused, text, lambda: self.host.create(kind, 0, wrong([0.5, 1])))
                 self.refuse(errors.FloatsRefused, text, lambda: self.host.create(kind, 0, np.array([0.5])))
-        self.refuse(errors.FloatsRefused, "Q15", lambda: self.fir.set([0.5, 0.5]))
+        self.refuse(errors.FloatsRefused, "Q15", lambda: self.fir.set(wrong([0.5, 0.5])))
         self.refuse(errors.FloatsRefused, "from_floats", lambda: self.line.feed(np.array([0.5])))
         self.refuse(errors.FloatsRefused, "from_floats", lambda: self.line.feed([0.25, 1]))
 
@@ -232,7 +240,7 @@ class Arrays(LibraryCase):
     def test_cuts_do_not_show(self) -> None:
         """One call, calls of odd lengths, and calls of one sample give the same."""
         given = noise(5000, peak=30000)
-        kinds = (("fir", design.fir("low", [1000], 31)), ("decim", [3, 9000, 9000, 9000]), ("biquad", design.low(800, order=2)), ("tone", [27980, 102, 8]), ("g711", [1, 0]), ("gain", [-9000]), ("level", [80, 4]), ("dtmf", design.dtmf("b")))
+        kinds: tuple[tuple[str, Iterable[int] | Design], ...] = (("fir", design.fir("low", [1000], 31)), ("decim", [3, 9000, 9000, 9000]), ("biquad", design.low(800, order=2)), ("tone", [27980, 102, 8]), ("g711", [1, 0]), ("gain", [-9000]), ("level", [80, 4]), ("dtmf", design.dtmf("b")))
         for kind, params in kinds:
             whole, *others = (self.cut(kind, params, given, length) for length in (5000, 1, 7, 160, 1024, 1025, 4999))
             self.assertGreater(len(whole), 40)
@@ -240,7 +248,7 @@ class Arrays(LibraryCase):
                 self.assertEqual(other.tolist(), whole.tolist(), kind)
 
     @staticmethod
-    def cut(kind: str, params: object, given: np.ndarray, length: int) -> np.ndarray:
+    def cut(kind: str, params: Iterable[int] | Design, given: np.ndarray, length: int) -> np.ndarray:
         """The output for a signal that is cut into calls of a length."""
         with Host() as host:
             line = host.chain(host.create(kind, 0, params))
@@ -409,10 +417,12 @@ class WithoutHost(LibraryCase):
 
     def test_operators(self) -> None:
         a, b = noise(3000, 1, 32768), noise(3000, 2, 32768)
-        for ours, theirs in ((operators.add, model.add), (operators.sub, model.sub)):
-            self.assertEqual(ours(a, b).tolist(), [theirs(x, y) for x, y in zip(a.tolist(), b.tolist())])
+        for pair, pair_model in ((operators.add, model.add), (operators.sub, model.sub)):
+            self.assertEqual(pair(a, b).tolist(), [pair_model(x, y) for x, y in zip(a.tolist(), b.tolist())])
+        by_one: tuple[tuple[Callable[..., np.ndarray], Callable[[int, int], int]], ...] = (
+            (operators.shl, model.shl), (operators.shr, model.shr), (operators.mult, model.mult))
         for n in (-32768, -17, -3, 0, 1, 7, 15, 16, 32767):
-            for ours, theirs in ((operators.shl, model.shl), (operators.shr, model.shr), (operators.mult, model.mult)):
+            for ours, theirs in by_one:
                 self.assertEqual(ours(a, n).tolist(), [theirs(x, n) for x in a.tolist()])
         wanted = -7
         for x, y in zip(a.tolist(), b.tolist()):
@@ -445,7 +455,7 @@ class WithoutHost(LibraryCase):
             (errors.DesignError, "-80 dB", lambda: design.gain(-80)),
             (errors.DesignError, "1 to 1024", lambda: design.level(1025)),
             (errors.DesignError, "a or b", lambda: design.dtmf("c")),
-            (TypeError, "integer", lambda: operators.shl([1], 0.5)),
+            (TypeError, "integer", lambda: operators.shl([1], wrong(0.5))),
         ):
             with self.subTest(text=text):
                 self.assertRaisesRegex(wanted, text, call)
@@ -517,7 +527,8 @@ class Held:
 class Threads(LibraryCase):
     def test_a_host_in_each(self) -> None:
         """Eight threads with a host each give what they give one after the other."""
-        wanted, found = [self.work(seed) for seed in range(8)], [None] * 8
+        wanted = [self.work(seed) for seed in range(8)]
+        found: list[list[int]] = [[]] * 8
 
         def run(seed: int) -> None:
             found[seed] = self.work(seed)
@@ -549,7 +560,9 @@ class Threads(LibraryCase):
                     found.append(line.feed([2, 4, 0]).tolist())
                     host.compact("saram")
 
-        for work in ([lambda line=line: feed(line) for line in lines], [host.close]):
+        feeds = [functools.partial(feed, line) for line in lines]
+        works: tuple[list[Callable[[], None]], ...] = ([*feeds], [host.close])
+        for work in works:
             threads = [threading.Thread(target=one) for one in work]
             for one in threads:
                 one.start()

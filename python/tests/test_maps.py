@@ -60,7 +60,9 @@ class Histories(Case):
     def history(self, text: str = TURNS, **settings: int) -> maps.History:
         for name in "ab":
             self.write(name, noise(100))
-        return self.run_text(text, "a", "x", "b", "y", settings=Settings(**settings), history=True).history
+        kept = self.run_text(text, "a", "x", "b", "y", settings=Settings(**settings), history=True).history
+        assert kept
+        return kept
 
     def test_who_is_active(self) -> None:
         found = {moment.line: moment for moment in self.history().moments}
@@ -204,14 +206,16 @@ class Design(Case):
         first = plot.spectrograms([[("in", heard, 8000), ("out", heard[::4], 2000)]])
         self.assertEqual(first.get_ylim(), (0, 4000))
         self.assertEqual(len(first.figure.axes), 3)
-        for few in ([], [[]], [[("in", heard[:3], 8000)]]):
+        too_few: tuple[list[list[tuple[str, np.ndarray, float]]], ...] = ([], [[]], [[("in", heard[:3], 8000)]])
+        for few in too_few:
             with self.assertRaises(OutOfRange):
                 plot.spectrograms(few)
 
     def test_latency(self) -> None:
         axes = plot.latency([0.4, 0.5, 0.5, 30], 20)
         self.assertEqual([it.get_text() for it in axes.get_legend().get_texts()], ["median: 0.50 ms", "99 of 100: 29.11 ms", "longest: 30.00 ms", "a block lasts 20 ms"])
-        for none in ([], [0.0]):
+        nothing: tuple[list[float], ...] = ([], [0.0])
+        for none in nothing:
             with self.assertRaises(OutOfRange):
                 plot.latency(none, 20)
 

@@ -15,7 +15,7 @@ import sys
 import tempfile
 import unittest
 from pathlib import Path
-from typing import NamedTuple, Optional, Sequence, Union
+from typing import IO, Any, NamedTuple, Optional, Sequence, Union
 
 sys.dont_write_bytecode = True
 sys.path.insert(0, str(Path(__file__).resolve().parents[1] / "model"))
@@ -57,6 +57,12 @@ def words(*samples: int) -> bytes:
     return struct.pack("<%dh" % len(samples), *samples)
 
 
+def piped(stream: Optional[IO[bytes]]) -> IO[bytes]:
+    """A stream of a process that was started with a pipe there."""
+    assert stream
+    return stream
+
+
 class ConsoleCase(unittest.TestCase):
     """A test in a folder of its own, with a script that halves three samples."""
 
@@ -79,7 +85,7 @@ class ConsoleCase(unittest.TestCase):
         return (self.folder / name).exists()
 
     def run_program(self, *words_: Word, stdin: Optional[bytes] = None, environment: Optional[dict[str, str]] = None,
-                    program: str = PROGRAM, **how) -> Ended:
+                    program: str = PROGRAM, **how: Any) -> Ended:
         """Runs the program to its end. `how` goes to `subprocess.run`."""
         how.setdefault("stdout", subprocess.PIPE)
         how.setdefault("stderr", subprocess.PIPE)
@@ -89,7 +95,7 @@ class ConsoleCase(unittest.TestCase):
                               env={**os.environ, **environment} if environment else None, **how)
         return Ended(done.returncode, done.stdout or b"", done.stderr or b"")
 
-    def run_script(self, script: bytes, *words_: Word, **how) -> Ended:
+    def run_script(self, script: bytes, *words_: Word, **how: Any) -> Ended:
         """Runs the program over a script in a regular file; `words_` are the options and the pairs."""
         self.write("given", script)
         return self.run_program(*[w for w in words_ if str(w).startswith("--")], "given",

@@ -7,6 +7,7 @@ import re
 import tempfile
 import unittest
 from pathlib import Path
+from typing import Any
 
 from console_case import GATEWAY, HALF, READ_FAILED, WRITE_FAILED, ConsoleCase, Word, words
 
@@ -222,7 +223,7 @@ class Version(ConsoleCase):
 class OwnName(ConsoleCase):
     """The program with the kinds of a gateway says its own name, in the line of each status and before each reason."""
 
-    def end(self, *given: Word, **how: object) -> tuple[int, str]:
+    def end(self, *given: Word, **how: Any) -> tuple[int, str]:
         """The status and what is said."""
         ended = self.run_program(*given, program=GATEWAY, **how)
         return ended.status, ended.stderr.decode()

@@ -7,6 +7,7 @@ import errno
 import os
 import tempfile
 import unittest
+from pathlib import Path
 
 from console_case import HALF, READ_FAILED, WRITE_FAILED, ConsoleCase, words
 
@@ -84,11 +85,13 @@ class ReadFaults(ConsoleCase):
 class ShortCalls(ConsoleCase):
     """Devices that give and take a part of what they are asked for, by a library that is put before the program."""
 
+    library: Path
+
     @classmethod
     def setUpClass(cls) -> None:
-        cls.folder_of_library = tempfile.TemporaryDirectory(prefix="rokdaum-")
-        cls.addClassCleanup(cls.folder_of_library.cleanup)
-        cls.library = build_library(cls.folder_of_library.name)
+        folder = tempfile.TemporaryDirectory(prefix="rokdaum-")
+        cls.addClassCleanup(folder.cleanup)
+        cls.library = build_library(folder.name)
 
     def short(self, **told: object) -> dict[str, str]:
         """The environment for the library."""

@@ -11,7 +11,7 @@ import subprocess
 import unittest
 from typing import Callable, Optional
 
-from console_case import HALF, PATIENCE, PROGRAM, READ_FAILED, WRITE_FAILED, ConsoleCase, words
+from console_case import HALF, PATIENCE, PROGRAM, READ_FAILED, WRITE_FAILED, ConsoleCase, piped, words
 
 DONE = b"ok\nok\nok 2\nok 1\n"
 BILLION = 1_000_000_000
@@ -190,18 +190,19 @@ class Scripts(ConsoleCase):
         """A script by a pipe of `count` bytes: a head, NULs, a tail."""
         process = subprocess.Popen([PROGRAM, "/dev/stdin", "in", "out"], cwd=self.folder, stdin=subprocess.PIPE,
                                    stdout=subprocess.PIPE, stderr=subprocess.PIPE)
+        script, replies, stderr = piped(process.stdin), piped(process.stdout), piped(process.stderr)
         try:
-            process.stdin.write(head)
+            script.write(head)
             left = count - len(head) - len(tail)
             while left:
-                left -= process.stdin.write(bytes(min(left, 1 << 20)))
-            process.stdin.write(tail)
-            process.stdin.close()
+                left -= script.write(bytes(min(left, 1 << 20)))
+            script.write(tail)
+            script.close()
         except BrokenPipeError:
             pass
         status = process.wait(2 * PATIENCE)
-        found = status, process.stdout.read(), process.stderr.read()
-        for pipe in (process.stdout, process.stderr):
+        found = status, replies.read(), stderr.read()
+        for pipe in (replies, stderr):
             pipe.close()
         return found
 

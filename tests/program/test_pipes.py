@@ -10,9 +10,8 @@ import subprocess
 import threading
 import time
 import unittest
-from typing import Optional
 
-from console_case import HALF, PATIENCE, PROGRAM, WRITE_FAILED, ConsoleCase, words
+from console_case import HALF, PATIENCE, PROGRAM, WRITE_FAILED, ConsoleCase, piped, words
 
 
 def end_by_signals() -> None:
@@ -27,16 +26,17 @@ class Dialogue:
     def __init__(self, case: ConsoleCase, *ports: str):
         self.process = subprocess.Popen([PROGRAM, "/dev/stdin", *ports], cwd=case.folder, stdin=subprocess.PIPE,
                                         stdout=subprocess.PIPE, stderr=subprocess.PIPE, bufsize=0, preexec_fn=end_by_signals)
+        self.script, self.replies, self.stderr = piped(self.process.stdin), piped(self.process.stdout), piped(self.process.stderr)
         case.addCleanup(self.stop)
 
-    def ask(self, line: bytes, seconds: float = PATIENCE) -> Optional[bytes]:
-        """Writes a line; its reply, None where none comes in time."""
-        self.process.stdin.write(line + b"\n")
+    def ask(self, line: bytes, seconds: float = PATIENCE) -> bytes:
+        """Writes a line; its reply. Raises `TimeoutError` where none comes in time."""
+        self.script.write(line + b"\n")
         reply = b""
         while not reply.endswith(b"\n"):
-            if not select.select([self.process.stdout], [], [], seconds)[0]:
-                return None
-            part = os.read(self.process.stdout.fileno(), 65536)
+            if not select.select([self.replies], [], [], seconds)[0]:
+                raise TimeoutError(f"no reply to {line!r} in {seconds} s")
+            part = os.read(self.replies.fileno(), 65536)
             if not part:
                 return reply
             reply += part
@@ -44,16 +44,16 @@ class Dialogue:
 
     def end(self) -> tuple[int, bytes]:
         """Ends the script; the status and the standard error."""
-        self.process.stdin.close()
+        self.script.close()
         status = self.process.wait(PATIENCE)
-        return status, self.process.stderr.read()
+        return status, self.stderr.read()
 
     def stop(self) -> None:
         """Ends a run that is still there, and closes its pipes."""
         if self.process.poll() is None:
             self.process.kill()
             self.process.wait()
-        for pipe in (self.process.stdin, self.process.stdout, self.process.stderr):
+        for pipe in (self.script, self.replies, self.stderr):
             pipe.close()
 
 
@@ -185,10 +185,11 @@ class Devices(ConsoleCase):
         self.write("long", HALF + b"feed 0 1\n" * 60000)
         process = subprocess.Popen([PROGRAM, "long", "in", "out"], cwd=self.folder, stdin=subprocess.DEVNULL,
                                    stdout=subprocess.PIPE, stderr=subprocess.PIPE)
-        self.assertEqual(process.stdout.readline(), b"ok\n")
-        process.stdout.close()
-        self.assertEqual((process.wait(PATIENCE), process.stderr.read()), WRITE_FAILED)
-        process.stderr.close()
+        replies, stderr = piped(process.stdout), piped(process.stderr)
+        self.assertEqual(replies.readline(), b"ok\n")
+        replies.close()
+        self.assertEqual((process.wait(PATIENCE), stderr.read()), WRITE_FAILED)
+        stderr.close()
         self.assertGreater(len(self.read("out")), 0)
 
     def test_a_run_that_is_ended_from_outside(self) -> None:

@@ -75,7 +75,8 @@ class Statuses(ConsoleCase):
 
     def test_ports_that_are_no_pairs(self) -> None:
         many = [f"{way}{c}" for c in range(17) for way in ("in", "out")]
-        for ports in ([], ["in"], ["in", "out", "in"], many, many[:31], many[:33], ["x"] * 20000):
+        wrong: tuple[list[str], ...] = ([], ["in"], ["in", "out", "in"], many, many[:31], many[:33], ["x"] * 20000)
+        for ports in wrong:
             with self.subTest(count=len(ports)):
                 self.assertEqual(self.run_program("script", *ports).end, WRONG_PORTS)
         self.assertFalse(self.exists("out"))

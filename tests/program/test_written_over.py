@@ -8,6 +8,7 @@ import resource
 import subprocess
 import time
 import unittest
+from typing import Any
 
 from console_case import (HALF, PATIENCE, PROGRAM, NO_MEMORY, READ_FAILED, WRITE_FAILED, WRONG_SIZE, ConsoleCase, words)
 
@@ -26,7 +27,7 @@ class WrittenOver(ConsoleCase):
         """What stands in each regular file of the folder."""
         return {path.name: path.read_bytes() for path in sorted(self.folder.iterdir()) if path.is_file()}
 
-    def refused(self, *given: str, **how) -> None:
+    def refused(self, *given: str, **how: Any) -> None:
         """The run ends with status 4 and its line, and every file is as it was."""
         before = self.files()
         ended = self.run_program(*given, **how)
@@ -153,7 +154,7 @@ class Unbegun(ConsoleCase):
         super().setUp()
         self.write("old", b"left by an earlier run")
 
-    def left_alone(self, wanted: tuple[int, bytes], *given: str, **how) -> None:
+    def left_alone(self, wanted: tuple[int, bytes], *given: str, **how: Any) -> None:
         """The run ends as wanted, and no file is changed, made or gone."""
         before = {path: path.read_bytes() if path.is_file() else b"" for path in sorted(self.folder.iterdir())}
         ended = self.run_program(*given, **how)

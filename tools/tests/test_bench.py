@@ -65,8 +65,8 @@ class Loads(unittest.TestCase):
 
     def test_no_coefficients_of_a_bounded_filter_saturate(self) -> None:
         words = [int(word) for word in loads.coefficients(1, 64, 32000).split()]
-        self.assertLessEqual(sum(map(abs, words)), 32000)
-        self.assertGreater(sum(map(abs, words)), 31900)
+        self.assertLessEqual(sum(abs(word) for word in words), 32000)
+        self.assertGreater(sum(abs(word) for word in words), 31900)
 
 
 class Tables(unittest.TestCase):
@@ -119,6 +119,8 @@ class Tables(unittest.TestCase):
 
 @unittest.skipUnless(shutil.which("clang"), "no clang")
 class InC(unittest.TestCase):
+    built: dict[str, Path]
+
     @classmethod
     def setUpClass(cls) -> None:
         folder = tempfile.TemporaryDirectory()

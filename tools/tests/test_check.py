@@ -14,18 +14,22 @@ import sys
 import tempfile
 import unittest
 from pathlib import Path
+from types import ModuleType
 from unittest import mock
 
 TOP = Path(__file__).resolve().parents[2]
 sys.path.insert(0, str(TOP / "tools"))
 
 import status  # noqa: E402  (it stands in tools/)
+from tests.case import entered  # noqa: E402
 
 
-def script(name: str):
+def script(name: str) -> ModuleType:
     """A script without an ending, as a module."""
     loader = importlib.machinery.SourceFileLoader(name, str(TOP / name))
-    made = importlib.util.module_from_spec(importlib.util.spec_from_loader(name, loader))
+    spec = importlib.util.spec_from_loader(name, loader)
+    assert spec
+    made = importlib.util.module_from_spec(spec)
     sys.modules[name] = made
     loader.exec_module(made)
     return made
@@ -113,10 +117,10 @@ class Packages(unittest.TestCase):
     """What is missing on a machine whose dpkg-query knows these packages, and who may install it."""
 
     def setUp(self) -> None:
-        self.bin = Path(self.enterContext(tempfile.TemporaryDirectory()))
-        self.enterContext(mock.patch.dict(os.environ, {"PATH": str(self.bin)}))
-        self.enterContext(mock.patch.object(check, "LOGS", self.bin))
-        self.said = self.enterContext(contextlib.redirect_stdout(io.StringIO()))
+        self.bin = Path(entered(self, tempfile.TemporaryDirectory()))
+        entered(self, mock.patch.dict(os.environ, {"PATH": str(self.bin)}))
+        entered(self, mock.patch.object(check, "LOGS", self.bin))
+        self.said = entered(self, contextlib.redirect_stdout(io.StringIO()))
 
     def put(self, name: str, text: str) -> None:
         (self.bin / name).write_text(f"#!/bin/sh\n{text}\n")
@@ -179,14 +183,14 @@ class Touched(unittest.TestCase):
     """A part that changes a file that isn't its own has failed."""
 
     def setUp(self) -> None:
-        self.top = Path(self.enterContext(tempfile.TemporaryDirectory()))
+        self.top = Path(entered(self, tempfile.TemporaryDirectory()))
         subprocess.run(["git", "init", "-q", self.top], check=True)
         (self.top / ".gitignore").write_text("out/\n")
         (self.top / "speech.wav").write_bytes(b"the user's own")
         (self.top / "out").mkdir()
-        self.enterContext(mock.patch.object(check, "TOP", self.top))
-        self.enterContext(mock.patch.object(check, "LOGS", self.top / "out"))
-        self.said = self.enterContext(contextlib.redirect_stdout(io.StringIO()))
+        entered(self, mock.patch.object(check, "TOP", self.top))
+        entered(self, mock.patch.object(check, "LOGS", self.top / "out"))
+        self.said = entered(self, contextlib.redirect_stdout(io.StringIO()))
 
     def run_part(self, command: str) -> tuple[int, int]:
         outcome = check.run(check.Part("x", ("sh", "-c", command), "", runs=()), False)

@@ -20,6 +20,7 @@ sys.path.insert(0, str(TOP / "tools"))
 
 import program  # noqa: E402  (it stands in tools/)
 from crates import Crate, closure, parse  # noqa: E402
+from tests.case import entered  # noqa: E402
 
 KIT = "rattle-kit-1 logic 00ff"
 # Says its version, or proves both crates and makes a program that prints its text, or fails where a source says so.
@@ -44,7 +45,7 @@ esac
 
 class Wrapper(unittest.TestCase):
     def setUp(self) -> None:
-        self.room = Path(self.enterContext(tempfile.TemporaryDirectory()))
+        self.room = Path(entered(self, tempfile.TemporaryDirectory()))
         self.top = self.room / "repository"
         for crate, name in (("low", "lib"), ("dsp_console_main", "main"), ("beside", "lib")):
             (self.top / "crates" / crate / "src").mkdir(parents=True)
@@ -294,11 +295,11 @@ class Ahead(unittest.TestCase):
     """The run for the longest chain, of a program over two crates that stand on each other and over five that stand on one."""
 
     def setUp(self) -> None:
-        self.room = Path(self.enterContext(tempfile.TemporaryDirectory()))
+        self.room = Path(entered(self, tempfile.TemporaryDirectory()))
         sides = [f"side_{it}" for it in range(5)]
-        listed = {"low": [], **{it: ["low"] for it in sides}, "mid": ["low"], "high": ["mid"], "main": [*sides, "high"]}
-        self.enterContext(mock.patch.object(program, "listed", return_value={name: Crate(name, tuple(below)) for name, below in listed.items()}))
-        self.enterContext(mock.patch.object(program, "source_files", return_value=[]))
+        listed: dict[str, list[str]] = {"low": [], **{it: ["low"] for it in sides}, "mid": ["low"], "high": ["mid"], "main": [*sides, "high"]}
+        entered(self, mock.patch.object(program, "listed", return_value={name: Crate(name, tuple(below)) for name, below in listed.items()}))
+        entered(self, mock.patch.object(program, "source_files", return_value=[]))
         self.said: list[str] = []
         self.progress = program.Progress(program.closure("main"), self.said.append)
         self.progress.begin()
@@ -308,7 +309,7 @@ class Ahead(unittest.TestCase):
         rt.parent.mkdir(parents=True)
         rt.write_text(f"#!/usr/bin/env bash\n{text}\n")
         rt.chmod(0o755)
-        self.enterContext(mock.patch.dict(os.environ, {"PATH": f"{rt.parent}:/usr/bin:/bin"}))
+        entered(self, mock.patch.dict(os.environ, {"PATH": f"{rt.parent}:/usr/bin:/bin"}))
 
     def test_its_crate_is_the_highest_that_stands_on_the_chain_alone(self) -> None:
         self.assertEqual(self.progress.chain_top(), "high")
@@ -324,8 +325,9 @@ class Ahead(unittest.TestCase):
 
     def test_it_goes_where_it_helps(self) -> None:
         self.put_rt("true")
-        helps = {"lanes": 4, "memory": 16_000_000_000, "disk": 20_000_000_000, "keeps": True}
-        for changed, goes in (({}, True), ({"lanes": 2}, False), ({"memory": 4_000_000_000}, False), ({"disk": 8_000_000_000}, False), ({"keeps": False}, False)):
+        helps: dict[str, int] = {"lanes": 4, "memory": 16_000_000_000, "disk": 20_000_000_000, "keeps": True}
+        cases: tuple[tuple[dict[str, int], bool], ...] = (({}, True), ({"lanes": 2}, False), ({"memory": 4_000_000_000}, False), ({"disk": 8_000_000_000}, False), ({"keeps": False}, False))
+        for changed, goes in cases:
             case = {**helps, **changed}
             self.progress.lanes = case["lanes"]
             with (

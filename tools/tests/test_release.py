@@ -6,6 +6,7 @@ from __future__ import annotations
 import hashlib
 import os
 import re
+import shlex
 import shutil
 import subprocess
 import sys
@@ -15,6 +16,10 @@ import unittest
 from pathlib import Path
 
 TOP = Path(__file__).resolve().parents[2]
+sys.path.insert(0, str(TOP / "tools"))
+
+from tests.case import entered  # noqa: E402  (its folder has to be on the path first)
+
 LOGIC = "5a" * 32
 SCRIPT = f"#!/bin/sh\n# rattle logic={LOGIC}\n# GLIBC_2.9 GLIBC_2.31\necho proved\n"
 PROGRAMS, ARCHIVES = ("dsp_console_main", "gateway_console"), ("dsp_library",)
@@ -23,12 +28,21 @@ LIBRARY = """all:
 	mkdir -p ../out/c
 	cat ../crates/*/out/lib*.a > ../out/c/librokdaum.a
 	echo shared > ../out/c/librokdaum.so.1.2.3
+	echo found > ../out/c/rokdaumConfig.cmake
+	echo version > ../out/c/rokdaumConfigVersion.cmake
 """
+
+
+def content(tar: tarfile.TarFile, name: str) -> bytes:
+    """What a file of an archive holds."""
+    member = tar.extractfile(name)
+    assert member, name
+    return member.read()
 
 
 class Release(unittest.TestCase):
     def setUp(self) -> None:
-        self.room = Path(self.enterContext(tempfile.TemporaryDirectory()))
+        self.room = Path(entered(self, tempfile.TemporaryDirectory()))
         self.top = self.room / "repository"
         self.out = self.room / "made"
         texts = {
@@ -36,6 +50,7 @@ class Release(unittest.TestCase):
             "docs/RELEASE.md": "[a](A.md) [x](../examples/x) [c](../CHANGELOG.md) [n](https://example.org/A.md)\n",
             "docs/A.md": "a\n",
             "docs/man/dsp_console.1": ".TH X 1\n",
+            "docs/man/rokdaum.3": ".TH X 3\n",
             "docs/completion/dsp_console": "# none\n",
             "examples/x": "#!/bin/sh\n../dsp_console\n",
             "crates.txt": "".join(f"{name}: arrayvec\n" for name in PROGRAMS) + "".join(f"{name} staticlib: ialg\n" for name in ARCHIVES),
@@ -102,10 +117,10 @@ class Release(unittest.TestCase):
         self.assertEqual(Path(f"{path}.sha256").read_text(), f"{hashlib.sha256(path.read_bytes()).hexdigest()}  {path.name}\n")
         with tarfile.open(path) as tar:
             found = {it.name: it for it in tar.getmembers()}
-            texts = {name.partition("/")[2]: tar.extractfile(it).read().decode() for name, it in found.items() if it.isfile()}
+            texts = {name.partition("/")[2]: content(tar, name).decode() for name, it in found.items() if it.isfile()}
         wanted = {"CHANGELOG.md", "LICENSE", "Makefile", "NOTICE", "ORIGIN", "README.md", "SECURITY.md", "SHA256SUMS", "VERSION", "docs/A.md", "docs/RELEASE.md"}
-        wanted |= {"docs/completion/dsp_console", "docs/man/dsp_console.1", "dsp_console", "gateway_console", "examples/x"}
-        wanted |= {"c/rokdaum.h", "c/examples/e.c", "lib/librokdaum.a", "lib/librokdaum.so.1.2.3", "lib/pkgconfig/rokdaum.pc"}
+        wanted |= {"docs/completion/dsp_console", "docs/man/dsp_console.1", "docs/man/rokdaum.3", "dsp_console", "gateway_console", "examples/x"}
+        wanted |= {"c/rokdaum.h", "c/examples/e.c", "lib/librokdaum.a", "lib/librokdaum.so.1.2.3", "lib/pkgconfig/rokdaum.pc", "lib/cmake/rokdaum/rokdaumConfig.cmake", "lib/cmake/rokdaum/rokdaumConfigVersion.cmake"}
         wanted |= {f"python/{it}" for it in ("rokdaum/host.py", "rokdaum/librokdaum.so", "bin/dsp_run", "bin/dsp_design", "bin/dsp_map")}
         self.assertEqual(set(texts), wanted)
         self.assertEqual((texts["dsp_console"], texts["gateway_console"]), (SCRIPT, SCRIPT))
@@ -159,8 +174,8 @@ class Release(unittest.TestCase):
         self.assertIn("not committed", self.release(status=1))
         path = self.release("--changed").strip()
         with tarfile.open(path) as tar:
-            self.assertIn(b"with changes", tar.extractfile("rokdaum-1.2.3-x86_64-linux/ORIGIN").read())
-            self.assertEqual(tar.extractfile("rokdaum-1.2.3-x86_64-linux/docs/A.md").read(), b"b\n")
+            self.assertIn(b"with changes", content(tar, "rokdaum-1.2.3-x86_64-linux/ORIGIN"))
+            self.assertEqual(content(tar, "rokdaum-1.2.3-x86_64-linux/docs/A.md"), b"b\n")
 
     def test_a_file_that_git_does_not_know(self) -> None:
         (self.top / "examples/mine").write_text("mine\n")
@@ -210,6 +225,24 @@ class Pages(unittest.TestCase):
 
     def test_the_man_page_has_no_fault(self) -> None:
         ran = subprocess.run(("groff", "-man", "-Tutf8", "-ww", "-z", TOP / "docs/man/dsp_console.1"), capture_output=True, text=True, check=True)
+        self.assertEqual(ran.stderr, "")
+
+    def test_the_man_page_of_the_library_is_of_the_header(self) -> None:
+        """Its prototypes are the header's, and its codes with their numbers."""
+        page = (TOP / "docs/man/rokdaum.3").read_text(encoding="utf-8")
+        header = re.sub(r"/\*.*?\*/", "", (TOP / "c/rokdaum.h").read_text(encoding="utf-8"), flags=re.S)
+        shown = "".join("".join(shlex.split(line)[1:]) for line in page.splitlines() if line.startswith(".BI") and "(1)" not in line)
+        there = re.findall(r"^(?:inline )?([a-z][\w *]*?\**rokdaum_(?!proved)\w+\([^;{]*?\));", header, re.M)
+        self.assertGreater(len(there), 30)
+        closed = {re.sub(r"\s", "", it) for it in shown.split(";")}
+        self.assertEqual({it for it in closed if "rokdaum_" in it}, {re.sub(r"\s", "", it) for it in there})
+        codes = dict(re.findall(r"ROKDAUM_(\w+) = (\d+)", header[:header.index("} rokdaum_code;")]))
+        self.assertEqual(dict(re.findall(r'^\.BR ROKDAUM_(\w+) " \((\d+)\)"$', page, re.M)), {name: number for name, number in codes.items() if name != "OK"})
+        self.assertIn(f'"Rokdaum {(TOP / "VERSION").read_text().strip()}"', page)
+        self.assertIn(f"ROKDAUM_OK\n({codes['OK']})", page)
+        kinds = re.findall(r"(ROKDAUM_\w+) = \d+", header[header.index("enum rokdaum_kind"):header.index("} rokdaum_kind;")])
+        self.assertEqual(re.findall(r"ROKDAUM_\w+", page[page.index(".B Kinds"):page.index(".B Samples")]), kinds)
+        ran = subprocess.run(("groff", "-man", "-Tutf8", "-ww", "-z", TOP / "docs/man/rokdaum.3"), capture_output=True, text=True, check=True)
         self.assertEqual(ran.stderr, "")
 
     def complete(self, *words: str) -> list[str]:

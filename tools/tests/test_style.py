@@ -11,8 +11,6 @@ from pathlib import Path
 
 TOP = Path(__file__).resolve().parents[2]
 DIALECT = (3, 10)
-# Scripts whose types are looked at one by one, since each is a program of its own; beside them all of tools/.
-TYPED = ("check", "dsp_console", "tests/compat", "tests/compat_adpcm", "tests/differential", "tests/dtmf_rates", "tests/faults", "tests/fuzz", "tests/readme", "tests/soak", "tests/talk_off", "tests/untouched")
 
 
 def scripts(interpreter: str) -> list[Path]:
@@ -28,12 +26,23 @@ def scripts(interpreter: str) -> list[Path]:
     return found
 
 
+def python_files() -> list[Path]:
+    """All files of Python that git knows: the scripts, and the modules."""
+    listed = subprocess.run(["git", "ls-files", "-z", "--cached", "--others", "--exclude-standard", "*.py"], cwd=TOP, capture_output=True, text=True, check=True).stdout.split("\0")
+    return sorted({*scripts("python"), *(TOP / name for name in listed if name and (TOP / name).is_file())})
+
+
 class Style(unittest.TestCase):
     def test_types(self) -> None:
-        for names in ([str(it) for it in sorted((TOP / "tools").glob("*.py"))], *([name] for name in TYPED)):
-            with self.subTest(names=names[0]):
+        """Every file of Python by tools/mypy.ini: those of a folder in one go, since two scripts of one name can't be."""
+        folders: dict[Path, list[str]] = {}
+        for path in python_files():
+            folders.setdefault(path.parent, []).append(str(path.relative_to(TOP)))
+        self.assertGreater(len(folders), 20)
+        for folder, names in folders.items():
+            with self.subTest(folder=folder):
                 done = subprocess.run(["/usr/bin/mypy", "--config-file", "tools/mypy.ini", *names], cwd=TOP, capture_output=True, text=True, check=False)
-                self.assertEqual(done.returncode, 0, done.stdout + done.stderr)
+                self.assertEqual((done.returncode, done.stderr), (0, ""), done.stdout)
 
     def test_shell(self) -> None:
         found = scripts("(?:ba|da)?sh")
@@ -43,16 +52,11 @@ class Style(unittest.TestCase):
 
     def test_dialect(self) -> None:
         """Each file of Python is read as Python 3.10 reads it."""
-        found = [*scripts("python"), *(TOP / name for name in subprocess.run(["git", "ls-files", "-z", "*.py"], cwd=TOP, capture_output=True, text=True, check=True).stdout.split("\0") if name)]
+        found = python_files()
         self.assertGreater(len(found), 60)
         for path in found:
             with self.subTest(path=path):
                 ast.parse(path.read_text(encoding="utf-8"), feature_version=DIALECT)
-
-    def test_the_typed_scripts_are_all_there_are(self) -> None:
-        """Those of tests that are in Python."""
-        found = {str(it.relative_to(TOP)) for it in scripts("python") if it.parent == TOP / "tests"}
-        self.assertEqual(found - set(TYPED), set())
 
 
 if __name__ == "__main__":

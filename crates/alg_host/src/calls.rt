@@ -1,14 +1,12 @@
 //! What an instance is given: controls and blocks of samples.
-ghost use Rattle.std.specs.Prelude.{◌≡◌, ◌≤◌, true, [], ◌∷◌, length, IfSome, IfNone, OnErr};
+ghost use Rattle.std.specs.Prelude.{◌≡◌, ◌≤◌, true, [], ◌∷◌, length, IfSome, OnErr};
 ghost use Rattle.ialg.specs.Views.{control_of};
-ghost use Rattle.host_table.specs.Table.{slot_at, HasShortLoan};
 ghost use Rattle.host_spec.specs.Calls.Call.{Control, Process, Lives};
 ghost use Rattle.host_moves.specs.Refinement.{told};
 ghost use Rattle.alg_host.specs.Hosts.{lives, HostCallRefines};
 
 use crate::Host;
 use crate::table_calls::{give_block, give_control};
-use host_table::ShortLoan;
 use ialg::{BLOCK_SAMPLES, Block, Ctl, Ialg, Refusal, Status};
 
 impl<M: Ialg> Host<M> {
@@ -46,40 +44,12 @@ impl<M: Ialg> Host<M> {
         give_block(&mut self.tables, self.poison, i, input, out);
     }
 
-    /// How the records of an instance that is active are lent to it without a plan: with such a loan
-    /// [`process_short`](Host::process_short) does what [`process`](Host::process) does. None for every other instance, and where there is
-    /// none.
+    /// What instance `i` gives for the one sample `x`, where it is active and that is told by reading its records alone: it has taken the sample
+    /// then, as [`process`](Host::process) would have given it. None: it has to be given the sample.
     #[inline(always)]
-    pub fn short_loan(&self, i: u8) -> Option<ShortLoan>
-        ensures found { IfSome result (HasShortLoan (slot_at self.now.tables.instances i)) }
-        ensures none { IfNone result ((loan : ShortLoan) → HasShortLoan (slot_at self.now.tables.instances i) loan → ⊥) }
-    {
-        self.tables.short_loan(i)
-    }
-
-    /// What instance `i`, which is active and has this short loan, gives for the one sample `x`, where that is told by reading its records
-    /// alone: it has taken the sample then, as [`process_short`](Host::process_short) would have given it. None: it has to be given the sample.
-    #[inline(always)]
-    pub fn process_sample(&self, i: u8, loan: ShortLoan, x: i16) -> Option<i16>
-        requires short { HasShortLoan (slot_at self.now.tables.instances i) loan }
+    pub fn process_sample(&self, i: u8, x: i16) -> Option<i16>
         ensures machine { IfSome result (λ y. HostCallRefines M.law (Process i (x ∷ []) (y ∷ [])) self.now self.now) }
     {
-        self.tables.process_sample(i, loan, x)
-    }
-
-    /// Gives instance `i`, which is active and has this short loan, a block of samples, and pushes what it gives out, as
-    /// [`process`](Host::process) does.
-    ///
-    /// Inlined, since at one sample a call weighs as much as the work.
-    #[inline(always)]
-    pub fn process_short(&mut self, i: u8, loan: ShortLoan, input: &[i16], out: &mut Block)
-        requires short { HasShortLoan (slot_at self.old.tables.instances i) loan }
-        requires empty { out.old.items ≡ [] }
-        requires some { 1 ≤ length input.now }
-        requires within { length input.now ≤ BLOCK_SAMPLES }
-        ensures bounded { length out.new.items ≤ length input.now }
-        ensures machine { HostCallRefines M.law (Process i input.now out.new.items) self.old self.new }
-    {
-        self.tables.process_short(i, loan, input, out);
+        self.tables.process_sample(i, x)
     }
 }

@@ -5,7 +5,7 @@ use Rattle.ialg.specs.declared.refusal.Refusal.TheVariants.{Long, Syntax, Range,
 use Rattle.ialg.specs.Refusals.{refusal_number}
 use Rattle.mem_rec.specs.declared.Space.{Space}
 use Rattle.mem_rec.specs.declared.Space.TheVariants.{Daram, Saram, External}
-use Rattle.gateway_kinds.specs.Kinds.{Kind, of_voice, of_gain, of_level, of_dtmf, of_echo, of_adpcm, of_signal}
+use Rattle.gateway_kinds.specs.Kinds.{Kind, of_voice, of_gain, of_level, of_dtmf, of_echo, of_adpcm, of_signal, of_activity}
 use Rattle.voice_set.specs.declared.voice.Voice.TheVariants.{Fir, Decim, Biquad, Tone, G711}
 use Rattle.host_map.specs.declared.parts.Sizes.{Sizes}
 use Rattle.host_map.specs.declared.placed.Owner.{Owner}
@@ -19,7 +19,8 @@ use Rattle.dsp_library.specs.declared.handle.Options.{Options}
 use Rattle.dsp_library.specs.declared.spaces.BlockShown.{BlockShown}
 use Rattle.dsp_library.specs.declared.TheConstants.{DONE}
 
--- 0 to 4 are the voices, 5 a gain, 6 a meter, 7 a detector of digits, 8 an echo canceller, 9 an ADPCM coder and 10 a generator of tones
+-- 0 to 4 are the voices, 5 a gain, 6 a meter, 7 a detector of digits, 8 an echo canceller, 9 an ADPCM coder,
+-- 10 a generator of tones and 11 a detector of voice activity
 abbrev pub kind_numbered : ℕ → Option Kind
 kind_numbered zero = Some (of_voice Fir)
 kind_numbered (suc zero) = Some (of_voice Decim)
@@ -32,7 +33,8 @@ kind_numbered (suc (suc (suc (suc (suc (suc (suc zero))))))) = Some (of_dtmf (re
 kind_numbered (suc (suc (suc (suc (suc (suc (suc (suc zero)))))))) = Some (of_echo (record { of = record {} }))
 kind_numbered (suc (suc (suc (suc (suc (suc (suc (suc (suc zero))))))))) = Some (of_adpcm (record { of = record {} }))
 kind_numbered (suc (suc (suc (suc (suc (suc (suc (suc (suc (suc zero)))))))))) = Some (of_signal (record { of = record {} }))
-kind_numbered (suc (suc (suc (suc (suc (suc (suc (suc (suc (suc (suc n))))))))))) = None
+kind_numbered (suc (suc (suc (suc (suc (suc (suc (suc (suc (suc (suc zero))))))))))) = Some (of_activity (record { of = record {} }))
+kind_numbered (suc (suc (suc (suc (suc (suc (suc (suc (suc (suc (suc (suc n)))))))))))) = None
 
 abbrev pub space_numbered : ℕ → Option Space
 space_numbered zero = Some Daram

@@ -3,6 +3,7 @@ ghost use Rattle.std.specs.Prelude.{◌≡◌};
 ghost use Rattle.dsp_library.specs.Codes.{kind_numbered, space_numbered, code_of, full_after};
 
 use crate::DONE;
+use alg_activity::Activity;
 use alg_adpcm::Adpcm;
 use alg_dtmf::Dtmf;
 use alg_echo::Echo;
@@ -30,7 +31,12 @@ pub(crate) fn kind_by(number: u32) -> Option<GatewayKind>
         7 => Or::Second(Or::Second(Or::Second(Or::First(Dtmf)))),
         8 => Or::Second(Or::Second(Or::Second(Or::Second(Or::First(Echo::new()))))),
         9 => Or::Second(Or::Second(Or::Second(Or::Second(Or::Second(Or::First(Adpcm::new())))))),
-        10 => Or::Second(Or::Second(Or::Second(Or::Second(Or::Second(Or::Second(Signal::new())))))),
+        10 => Or::Second(Or::Second(Or::Second(Or::Second(Or::Second(Or::Second(Or::First(
+            Signal::new(),
+        ))))))),
+        11 => Or::Second(Or::Second(Or::Second(Or::Second(Or::Second(Or::Second(Or::Second(
+            Activity::new(),
+        ))))))),
         _ => return None,
     };
     Some(GatewayKind { kind })

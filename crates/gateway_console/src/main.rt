@@ -6,11 +6,11 @@ use dsp_program::{About, program};
 use gateway_kinds::GatewayKind;
 use std::process::ExitCode;
 
-/// The console over all eleven kinds.
+/// The console over all twelve kinds.
 const GATEWAY: About = About {
     name: "gateway_console",
     usage: "gateway_console [OPTIONS] <SCRIPT> <IN OUT> [IN OUT]...",
-    about: "Serves a script of commands over files of 16-bit samples, by instances of dsp_console's kinds and of gain, level, dtmf, echo, adpcm and signal.",
+    about: "Serves a script of commands over files of 16-bit samples, by instances of dsp_console's kinds and of gain, level, dtmf, echo, adpcm, signal and activity.",
 };
 
 fn main(rt: HostRuntime) -> ExitCode {

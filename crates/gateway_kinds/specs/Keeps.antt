@@ -21,6 +21,7 @@ use Rattle.alg_dtmf.specs.declared.TheConstants.{DTMF_KIND}
 use Rattle.alg_dtmf.specs.Meaning.{dtmf_memory}
 use Rattle.alg_dtmf.specs.Keeps as dtmf
 use Rattle.kind_steps.specs.declared.recursion.Recursive.{Recursive}
+use Rattle.kind_steps.specs.declared.stepping.Stepped.{Stepped}
 use Rattle.kind_steps.specs.Pairings.{two_samples}
 use Rattle.kind_steps.specs.Recursions.{RestsByRecursion, RunsByRecursion}
 use Rattle.kind_steps.specs.Steppings.{RestsInSteps, RunsInSteps}
@@ -35,7 +36,11 @@ use Rattle.alg_adpcm.specs.Words as coder
 use Rattle.alg_signal.specs.declared.TheConstants as signal_words
 use Rattle.alg_signal.specs.declared.generator.Generator.{Generator}
 use Rattle.alg_signal.specs.Tones as tones
-use Rattle.gateway_kinds.specs.Kinds.{Canceling, Kind, kind_meaning, gain_filter, level_filter, echo_filter, adpcm_filter, signal_filter}
+use Rattle.alg_activity.specs.declared.TheConstants as activity_words
+use Rattle.alg_activity.specs.declared.detector.Detector.{Detector}
+use Rattle.alg_activity.specs.Equation as talk
+use Rattle.alg_activity.specs.Keeps as heard
+use Rattle.gateway_kinds.specs.Kinds.{Canceling, Kind, kind_meaning, gain_filter, level_filter, echo_filter, adpcm_filter, signal_filter, activity_filter}
 
 abbrev pub gain_idle : Relation (Mapped Amplifier)
 gain_idle _ p rs wss h = filters.IsIdle GAIN_KIND (gain_filter.memory p) (Maps is_factor p h) rs wss
@@ -77,12 +82,23 @@ abbrev pub signal_active : Relation (Recursive Generator)
 signal_active _ p rs wss h =
     filters.IsActive signal_words.SIGNAL_KIND (signal_filter.memory p) (RunsByRecursion tones.initial_tones tones.taken signal_words.STATE_WORDS tones.cadence_named tones.words_of p h) rs wss
 
+abbrev pub activity_idle : Relation (Stepped Detector)
+activity_idle _ p rs wss h =
+    filters.IsIdle activity_words.ACTIVITY_KIND (activity_filter.memory p) (RestsInSteps talk.frame_length heard.state_words talk.is_detector heard.words_of p h) rs wss
+
+abbrev pub activity_active : Relation (Stepped Detector)
+activity_active _ p rs wss h =
+    filters.IsActive activity_words.ACTIVITY_KIND (activity_filter.memory p) (RunsInSteps talk.frame_length heard.state_words talk.is_detector heard.words_of p h) rs wss
+
 abbrev pub IsIdle : Relation Kind
-IsIdle k = either_refines voice.IsIdle (either_refines gain_idle (either_refines level_idle (either_refines dtmf_idle (either_refines echo_idle (either_refines adpcm_idle signal_idle))))) k.kind
+IsIdle k =
+    either_refines voice.IsIdle (either_refines gain_idle (either_refines level_idle (either_refines dtmf_idle (either_refines echo_idle (either_refines adpcm_idle
+    (either_refines signal_idle activity_idle)))))) k.kind
 
 abbrev pub IsActive : Relation Kind
 IsActive k =
-    either_refines voice.IsActive (either_refines gain_active (either_refines level_active (either_refines dtmf_active (either_refines echo_active (either_refines adpcm_active signal_active))))) k.kind
+    either_refines voice.IsActive (either_refines gain_active (either_refines level_active (either_refines dtmf_active (either_refines echo_active (either_refines adpcm_active
+    (either_refines signal_active activity_active)))))) k.kind
 
 -- a filter has no more records, and none that is write-once
 abbrev pub filter_bound : {A : Type 0} → A → ℕ
@@ -95,8 +111,8 @@ no_fill _ p k = []
 abbrev pub kind_laws : Laws Kind
 kind_laws = record {
   meaning = kind_meaning;
-  bound = λ k. told voice.voice_bound (told filter_bound (told filter_bound (told filter_bound (told filter_bound (told filter_bound filter_bound))))) k.kind;
-  fill = λ k. told voice.voice_fill (told no_fill (told no_fill (told no_fill (told no_fill (told no_fill no_fill))))) k.kind;
+  bound = λ k. told voice.voice_bound (told filter_bound (told filter_bound (told filter_bound (told filter_bound (told filter_bound (told filter_bound filter_bound)))))) k.kind;
+  fill = λ k. told voice.voice_fill (told no_fill (told no_fill (told no_fill (told no_fill (told no_fill (told no_fill no_fill)))))) k.kind;
   idle_refines = IsIdle;
   active_refines = IsActive;
 }

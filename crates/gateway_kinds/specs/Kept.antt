@@ -15,7 +15,8 @@ idle_words (Second (Second (First m))) p rs wss h keeps = keeps.keeps.history
 idle_words (Second (Second (Second (First d)))) p rs wss h keeps = keeps.keeps.history
 idle_words (Second (Second (Second (Second (First e))))) p rs wss h keeps = keeps.keeps.history
 idle_words (Second (Second (Second (Second (Second (First c)))))) p rs wss h keeps = keeps.keeps.history
-idle_words (Second (Second (Second (Second (Second (Second g)))))) p rs wss h keeps = keeps.keeps.history
+idle_words (Second (Second (Second (Second (Second (Second (First g))))))) p rs wss h keeps = keeps.keeps.history
+idle_words (Second (Second (Second (Second (Second (Second (Second d))))))) p rs wss h keeps = keeps.keeps.history
 
 pub active_words : (k : Sets) (p : List ℤ) (rs : List MemRec) (wss : List (List ℤ)) (h : History) → IsActive (in_gateway k) p rs wss h → IsWordHistory h
 active_words (First v) p rs wss h keeps = voice.active_words v p rs wss h keeps
@@ -24,7 +25,8 @@ active_words (Second (Second (First m))) p rs wss h keeps = keeps.keeps.history
 active_words (Second (Second (Second (First d)))) p rs wss h keeps = keeps.keeps.history
 active_words (Second (Second (Second (Second (First e))))) p rs wss h keeps = keeps.keeps.history
 active_words (Second (Second (Second (Second (Second (First c)))))) p rs wss h keeps = keeps.keeps.history
-active_words (Second (Second (Second (Second (Second (Second g)))))) p rs wss h keeps = keeps.keeps.history
+active_words (Second (Second (Second (Second (Second (Second (First g))))))) p rs wss h keeps = keeps.keeps.history
+active_words (Second (Second (Second (Second (Second (Second (Second d))))))) p rs wss h keeps = keeps.keeps.history
 
 pub idle_fill : (k : Sets) (p : List ℤ) (rs : List MemRec) (wss : List (List ℤ)) (h : History)
     → IsIdle (in_gateway k) p rs wss h → HoldFill (kind_laws.fill (in_gateway k) p) rs wss
@@ -34,7 +36,8 @@ idle_fill (Second (Second (First m))) p rs wss h keeps k once = absurd (keeps.pl
 idle_fill (Second (Second (Second (First d)))) p rs wss h keeps k once = absurd (keeps.placed.none_once k once)
 idle_fill (Second (Second (Second (Second (First e))))) p rs wss h keeps k once = absurd (keeps.placed.none_once k once)
 idle_fill (Second (Second (Second (Second (Second (First c)))))) p rs wss h keeps k once = absurd (keeps.placed.none_once k once)
-idle_fill (Second (Second (Second (Second (Second (Second g)))))) p rs wss h keeps k once = absurd (keeps.placed.none_once k once)
+idle_fill (Second (Second (Second (Second (Second (Second (First g))))))) p rs wss h keeps k once = absurd (keeps.placed.none_once k once)
+idle_fill (Second (Second (Second (Second (Second (Second (Second d))))))) p rs wss h keeps k once = absurd (keeps.placed.none_once k once)
 
 pub active_fill : (k : Sets) (p : List ℤ) (rs : List MemRec) (wss : List (List ℤ)) (h : History)
     → IsActive (in_gateway k) p rs wss h → HoldFill (kind_laws.fill (in_gateway k) p) rs wss
@@ -44,4 +47,5 @@ active_fill (Second (Second (First m))) p rs wss h keeps k once = absurd (keeps.
 active_fill (Second (Second (Second (First d)))) p rs wss h keeps k once = absurd (keeps.placed.none_once k once)
 active_fill (Second (Second (Second (Second (First e))))) p rs wss h keeps k once = absurd (keeps.placed.none_once k once)
 active_fill (Second (Second (Second (Second (Second (First c)))))) p rs wss h keeps k once = absurd (keeps.placed.none_once k once)
-active_fill (Second (Second (Second (Second (Second (Second g)))))) p rs wss h keeps k once = absurd (keeps.placed.none_once k once)
+active_fill (Second (Second (Second (Second (Second (Second (First g))))))) p rs wss h keeps k once = absurd (keeps.placed.none_once k once)
+active_fill (Second (Second (Second (Second (Second (Second (Second d))))))) p rs wss h keeps k once = absurd (keeps.placed.none_once k once)

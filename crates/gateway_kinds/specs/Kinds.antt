@@ -36,6 +36,9 @@ use Rattle.alg_adpcm.specs.Meaning.{coder_named}
 use Rattle.alg_signal.specs.declared.TheConstants as signal_words
 use Rattle.alg_signal.specs.declared.generator.Generator.{Generator}
 use Rattle.alg_signal.specs.Tones as tones
+use Rattle.alg_activity.specs.declared.detector.Detector.{Detector}
+use Rattle.alg_activity.specs.Equation as talk
+use Rattle.alg_activity.specs.Keeps as heard
 use Rattle.gateway_kinds.specs.declared.kind.GatewayKind.{GatewayKind}
 
 -- a canceller is a kind of pairs
@@ -44,7 +47,7 @@ Canceling = Stepped (OfPairs Canceller)
 
 -- the sets of kinds, in the order in which a name is looked for
 abbrev pub Sets : Type 0
-Sets = Or Voice (Or (Mapped Amplifier) (Or (Framed Meter) (Or Dtmf (Or Canceling (Or (Recursive Coding) (Recursive Generator))))))
+Sets = Or Voice (Or (Mapped Amplifier) (Or (Framed Meter) (Or Dtmf (Or Canceling (Or (Recursive Coding) (Or (Recursive Generator) (Stepped Detector)))))))
 
 abbrev pub Kind : Type 0
 Kind = GatewayKind
@@ -72,7 +75,10 @@ abbrev pub of_adpcm : Recursive Coding → Kind
 of_adpcm c = in_gateway (Second (Second (Second (Second (Second (First c))))))
 
 abbrev pub of_signal : Recursive Generator → Kind
-of_signal g = in_gateway (Second (Second (Second (Second (Second (Second g))))))
+of_signal g = in_gateway (Second (Second (Second (Second (Second (Second (First g)))))))
+
+abbrev pub of_activity : Stepped Detector → Kind
+of_activity d = in_gateway (Second (Second (Second (Second (Second (Second (Second d)))))))
 
 -- a gain multiplies each sample by the factor in force
 abbrev pub gain_filter : FilterMeaning
@@ -94,11 +100,16 @@ adpcm_filter = recursion_filter adpcm.initial_state adpcm.taken adpcm_words.STAT
 abbrev pub signal_filter : FilterMeaning
 signal_filter = recursion_filter tones.initial_tones tones.taken signal_words.STATE_WORDS tones.cadence_named
 
+-- a detector tells of each frame whether somebody talks
+abbrev pub activity_filter : FilterMeaning
+activity_filter = stepping_filter talk.frame_length heard.state_words talk.is_detector talk.activity
+
 -- what each kind means
 abbrev pub kind_meaning : Meaning Kind
 kind_meaning = meaning_in (λ k. k.kind)
     (either_means voice_meaning (either_means (meaning_of gain_filter) (either_means (meaning_of level_filter)
-    (either_means (meaning_of dtmf_filter) (either_means (meaning_of echo_filter) (either_means (meaning_of adpcm_filter) (meaning_of signal_filter)))))))
+    (either_means (meaning_of dtmf_filter) (either_means (meaning_of echo_filter) (either_means (meaning_of adpcm_filter)
+    (either_means (meaning_of signal_filter) (meaning_of activity_filter))))))))
 
 -- the kinds of one type, at their place in the set
 module _ {A : Type 0} (kinds : Meaning Kind) (place : A → Kind) where

@@ -6,6 +6,7 @@ ghost use Rattle.gateway_kinds.specs.Kinds.{in_gateway};
 ghost use Rattle.gateway_kinds.specs.Keeps.{kind_laws};
 ghost use Rattle.gateway_kinds.specs.Kept.{idle_words, active_words, idle_fill, active_fill};
 
+use alg_activity::Activity;
 use alg_adpcm::Adpcm;
 use alg_dtmf::Dtmf;
 use alg_echo::Echo;
@@ -18,10 +19,10 @@ use mem_rec::MemTab;
 use voice_set::Voice;
 
 /// The sets of kinds, in the order in which a name is looked for.
-pub type Sets = Or<Voice, Or<Gain, Or<Level, Or<Dtmf, Or<Echo, Or<Adpcm, Signal>>>>>>;
+pub type Sets = Or<Voice, Or<Gain, Or<Level, Or<Dtmf, Or<Echo, Or<Adpcm, Or<Signal, Activity>>>>>>>;
 
-/// A kind that a gateway hosts: `fir`, `decim`, `biquad`, `tone`, `g711`, `gain`, `level`, `dtmf`, `echo`, `adpcm` or `signal`. Each call is
-/// that of the kind.
+/// A kind that a gateway hosts: `fir`, `decim`, `biquad`, `tone`, `g711`, `gain`, `level`, `dtmf`, `echo`, `adpcm`, `signal` or
+/// `activity`. Each call is that of the kind.
 ///
 /// It is a struct and not an alias of its sets, so that what is built over a gateway's kinds, as the library for C is, is checked over one type, and
 /// not over each set again.

@@ -21,8 +21,8 @@ pub(crate) fn spaces_of_records<M: Ialg>(
 {
     match &instances[i as usize] {
         Some(member) => match &member.inst {
-            Inst::Idling(idle) => record_spaces(&idle.instance.table),
-            Inst::Running(active) => record_spaces(&active.instance.table),
+            Inst::Idling(idle) => record_spaces(idle.instance.table.table()),
+            Inst::Running(active) => record_spaces(active.instance.table.table()),
         },
         None => unreachable!(),
     }

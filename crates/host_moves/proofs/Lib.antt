@@ -3,7 +3,6 @@ pub mod Owns
 pub mod Seen
 pub mod Slides
 pub mod Tells
-pub mod Followed
 pub mod Rooms
 pub mod Owners
 pub mod Instances

@@ -23,7 +23,8 @@ use Rattle.host_shared.specs.declared.locations.Locations.{Locations}
 use Rattle.host_shared.specs.Locations.{location_at, locations_at, shared_at}
 use Rattle.host_table.specs.Table.{slot_at, group_at, instance_of, active_in, slot_active_in, activity_at, IsHoused, EachIsHoused, AreAlike, IsSharer, AreHeld, AreBare, Tables, TablesOk, TablesTold}
 use Rattle.host_map.specs.Activity.{Activity}
-use Rattle.host_table.proofs.Housing.{same_blocks, housed_stays, room_stays}
+use Rattle.lifecycle.proofs.Groups.{same_blocks}
+use Rattle.host_table.proofs.Housing.{housed_stays, room_stays}
 use Rattle.host_moves.specs.Waiting.{inst_with, slot_with, own_set, IsHousedBut, TablesBut, IsWaiting}
 
 pub set_again : {A : Type 0} (xs : List A) (i : ℕ) (a b : A) → set (set xs i a) i b ≡ set xs i b

@@ -23,7 +23,7 @@ use Rattle.host_table.specs.Table.{slot_at, group_at, own_of, instance_of, activ
 use Rattle.host_shared.specs.Locations.{shared_at}
 use Rattle.host_table.specs.Refinement.{InstRefines, SlotRefines, SlotsRefine}
 use Rattle.host_table.specs.Frames.{SameMember, SameMembers}
-use Rattle.host_table.proofs.Housing.{same_blocks}
+use Rattle.lifecycle.proofs.Groups.{same_blocks}
 use Rattle.host_table.proofs.Held.{owners_of_held}
 use Rattle.host_table.proofs.Changes.{tables_by_change, keeps_after_change, blocks_stay, pieces_stay}
 use Rattle.host_table.proofs.Idles.{tables_by_quiet, keeps_after_end}

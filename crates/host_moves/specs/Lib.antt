@@ -1,5 +1,4 @@
 pub mod Waiting
-pub mod Following
 pub mod Standing
 pub mod Moves
 pub mod Lent

@@ -1,140 +1,19 @@
 //! algMoved: instances follow their records to where these lie now.
-ghost use Rattle.std.specs.Prelude.{◌≡◌, ◌+◌, ◌<◌, length, IsSome, IsTrue};
+ghost use Rattle.std.specs.Prelude.{◌≡◌, ◌+◌, ◌<◌, IsSome};
 ghost use Rattle.mem_rec.specs.declared.TheConstants.{TABLE_RECORDS, INSTANCES};
-ghost use Rattle.mem_rec.specs.Records.{is_table};
-ghost use Rattle.scratch_group.specs.Sharing.{IsOfSharingFilter};
-ghost use Rattle.lifecycle.specs.Moves.{CanRestore};
 ghost use Rattle.host_table.specs.Table.{slot_at, SameActivities};
-ghost use Rattle.host_shared.specs.Locations.{owner_of, shared_at};
-ghost use Rattle.host_shared.specs.Owners.{HasOwners, OnlyItsPiecesChange};
+ghost use Rattle.host_shared.specs.Locations.{owner_of};
 ghost use Rattle.host_shared.specs.Sharing.{AreLeast};
 ghost use Rattle.host_table.specs.Steps.{AreConsistent, MembersStay, AllHistoriesStay};
 ghost use Rattle.host_table.specs.Frames.{InactiveGroupsStay};
-ghost use Rattle.host_moves.specs.Following.{ActiveFollows, HasRoomAgain, IdleFollows};
 ghost use Rattle.host_moves.specs.Waiting.{restored_at, AreConsistentBut, AreThere, CanComeBack, SharersWait, SharersWaitFrom, SlotHasRoom, WaitsNoLonger};
 
-use host_shared::{Location, Locations, borrow_pieces, give_back_pieces, next_with_owner, owner};
+use host_shared::next_with_owner;
 use host_table::Tables;
 use ialg::Ialg;
-use lifecycle::{Active, Idle, Inst};
+use lifecycle::Inst;
 use mem_rec::INSTANCES;
-use record_loans::{CONSTANTS, SharingSizes};
-use scratch_group::{Group, filter_sizes, sharing_sizes};
 use space_raw::Piece;
-
-/// Calls algMoved of an idle instance, with its write-once records borrowed from their owners.
-#[inline(never)]
-fn follow_each<M: Ialg>(
-    idle: &mut Idle<M>,
-    back: Option<(usize, Piece)>,
-    sharing: &mut Vec<Locations>,
-    i: u8,
-    group: &Group,
-)
-    requires back { CanRestore back idle.old.instance.own }
-    requires number { i < length sharing.old.items }
-    requires owners { HasOwners sharing.old.items i }
-    requires fits { HasRoomAgain idle.old.instance back i sharing.old.items group.now }
-    ensures seen { OnlyItsPiecesChange i sharing.old.items sharing.new.items }
-    ensures follows { IdleFollows M.law back i idle.old sharing.old.items idle.new sharing.new.items group.now }
-{
-    let mut shared = borrow_pieces(sharing, i as usize);
-    idle.moved(back, &mut shared, group);
-    give_back_pieces(sharing, i as usize, shared);
-}
-
-/// Calls algMoved of an idle filter that shares its constants, as [`follow_each`] does: their piece stays at its owner.
-#[inline(always)]
-fn follow_sharing_filter<M: Ialg>(
-    idle: &mut Idle<M>,
-    sizes: SharingSizes,
-    back: Option<(usize, Piece)>,
-    sharing: &mut Vec<Locations>,
-    i: u8,
-    group: &Group,
-)
-    requires table { IsTrue (is_table idle.old.instance.table) }
-    requires sharing { IsOfSharingFilter idle.old.instance.table sizes }
-    requires back { CanRestore back idle.old.instance.own }
-    requires number { i < length sharing.old.items }
-    requires owners { HasOwners sharing.old.items i }
-    requires fits { HasRoomAgain idle.old.instance back i sharing.old.items group.now }
-    ensures seen { OnlyItsPiecesChange i sharing.old.items sharing.new.items }
-    ensures follows { IdleFollows M.law back i idle.old sharing.old.items idle.new sharing.new.items group.now }
-{
-    let at = owner(sharing, i as usize, CONSTANTS);
-    match &mut sharing[at].s2 {
-        Location::Here(once) => idle.moved_sharing(sizes, back, once, group),
-        Location::At(_owner) => unreachable!(),
-    }
-}
-
-/// Calls algMoved of an idle instance, with its write-once records borrowed from their owners, or lent where they stand.
-#[inline(always)]
-fn follow_sharing<M: Ialg>(
-    idle: &mut Idle<M>,
-    back: Option<(usize, Piece)>,
-    sharing: &mut Vec<Locations>,
-    i: u8,
-    group: &Group,
-)
-    requires back { CanRestore back idle.old.instance.own }
-    requires number { i < length sharing.old.items }
-    requires owners { HasOwners sharing.old.items i }
-    requires fits { HasRoomAgain idle.old.instance back i sharing.old.items group.now }
-    ensures seen { OnlyItsPiecesChange i sharing.old.items sharing.new.items }
-    ensures follows { IdleFollows M.law back i idle.old sharing.old.items idle.new sharing.new.items group.now }
-{
-    if let Some(sizes) = sharing_sizes(&idle.instance.table) {
-        follow_sharing_filter(idle, sizes, back, sharing, i, group);
-    } else {
-        follow_each(idle, back, sharing, i, group);
-    }
-}
-
-/// Calls algMoved of an idle instance. A filter has no write-once record, so nothing is borrowed for it: most instances are filters.
-#[inline(always)]
-fn follow<M: Ialg>(
-    idle: &mut Idle<M>,
-    back: Option<(usize, Piece)>,
-    sharing: &mut Vec<Locations>,
-    i: u8,
-    group: &Group,
-)
-    requires back { CanRestore back idle.old.instance.own }
-    requires number { i < length sharing.old.items }
-    requires owners { HasOwners sharing.old.items i }
-    requires fits { HasRoomAgain idle.old.instance back i sharing.old.items group.now }
-    ensures seen { OnlyItsPiecesChange i sharing.old.items sharing.new.items }
-    ensures follows { IdleFollows M.law back i idle.old sharing.old.items idle.new sharing.new.items group.now }
-{
-    if let Some(sizes) = filter_sizes(&idle.instance.table) {
-        idle.moved_filter(sizes, back, group);
-    } else {
-        follow_sharing(idle, back, sharing, i, group);
-    }
-}
-
-/// Calls algMoved of an active instance, with its write-once records borrowed from their owners. Few are active, so it stays apart.
-#[inline(never)]
-fn follow_active<M: Ialg>(
-    active: &mut Active<M>,
-    back: Option<(usize, Piece)>,
-    sharing: &mut Vec<Locations>,
-    i: u8,
-    group: &mut Group,
-)
-    requires back { CanRestore back active.old.instance.own }
-    requires number { i < length sharing.old.items }
-    requires owners { HasOwners sharing.old.items i }
-    requires fits { HasRoomAgain active.old.instance back i sharing.old.items group.old }
-    ensures seen { OnlyItsPiecesChange i sharing.old.items sharing.new.items }
-    ensures follows { ActiveFollows M.law back active.old.instance active.new.instance (shared_at sharing.old.items i) (shared_at sharing.new.items i) group.old group.new }
-{
-    let mut shared = borrow_pieces(sharing, i as usize);
-    active.moved(back, &mut shared, group);
-    give_back_pieces(sharing, i as usize, shared);
-}
 
 /// Calls algMoved of an instance, with its own piece that was taken out, if one was. It stays in its state.
 #[inline(always)]
@@ -156,10 +35,11 @@ pub fn tell<M: Ialg>(tables: &mut Tables<M>, i: u8, back: Option<(usize, Piece)>
             let g = member.group as usize;
             match &mut member.inst {
                 Inst::Idling(idle) => {
-                    follow(idle, back, &mut tables.sharing, i, &tables.groups[g]);
+                    idle.moved(back, &mut tables.sharing, i as usize, &tables.groups[g]);
                 }
                 Inst::Running(active) => {
-                    follow_active(active, back, &mut tables.sharing, i, &mut tables.groups[g]);
+                    let group = &mut tables.groups[g];
+                    active.moved(back, &mut tables.sharing, i as usize, group);
                 }
             }
         }

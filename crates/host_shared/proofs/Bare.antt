@@ -1,5 +1,5 @@
 -- An instance that sees no piece: nothing is taken, and nothing put.
-use Rattle.std.proofs.Common.{◌≡◌, ◌≢◌, ◌<◌, ℕ, zero, suc, List, [], ◌∷◌, length, set, slice_set, get_or, Option, None, refl, sym, ◌∙◌, ap, arith}
+use Rattle.std.proofs.Common.{◌≡◌, ◌≢◌, ◌<◌, ℕ, zero, suc, List, [], ◌∷◌, length, set, get_or, Option, None, refl, sym, ◌∙◌, ap, arith}
 use Rattle.std.proofs.lemmas.List.{set-get_or}
 use Rattle.space_raw.specs.Span.{Span}
 use Rattle.record_loans.specs.declared.pieces.Pieces.{Pieces}
@@ -54,23 +54,6 @@ module _ (sharing : List Locations) (i : ℕ) (p q : Option Span) (owners : HasO
   unfolding with_pieces_of
   two_put o e0 e1 e2 e3 n0 n3 = rw (e0, e1, e2, e3, put_nothing sharing i 0 (owners 0) n0, third_put n3) refl
 
--- of an instance that sees no piece but maybe that of record 2, this one is put alone
-pub third_put_alone : (sharing : List Locations) (i : ℕ) → HasOwners sharing i → (o : Pieces) → o.p0 ≡ None → o.p1 ≡ None → o.p3 ≡ None
-    → piece_seen sharing i 0 ≡ None → piece_seen sharing i 1 ≡ None → piece_seen sharing i 3 ≡ None
-    → with_pieces_of sharing i o ≡ put_piece sharing i 2 o.p2
-unfolding with_pieces_of
-third_put_alone sharing i owners o e0 e1 e3 n0 n1 n3 =
-    rw (
-      e0,
-      e1,
-      e3,
-      put_nothing sharing i 0 (owners 0) n0,
-      put_nothing sharing i 1 (owners 1) n1,
-      put_nothing (put_piece sharing i 2 o.p2) i 3
-          (owner_after sharing i 2 o.p2 (owners 2) (omega arith) 3 (owners 3))
-          (seen_beside sharing i 2 o.p2 (owners 2) (omega arith) 3 (omega arith) ∙ n3),
-    ) refl
-
 -- of an instance that keeps what it sees but the piece of one record, that one is put alone
 module _ (sharing : List Locations) (i k : ℕ) (p : Option Span) (owners : HasOwners sharing i) (below : k < 4) where
   put_over : (l : ℕ) → l ≢ k → put_piece (put_piece sharing i k p) i l (piece_seen sharing i l) ≡ put_piece sharing i k p
@@ -106,24 +89,3 @@ read_locations (t ∷ sharing) zero s inside read = sym read
 read_locations (t ∷ sharing) (suc i) s inside read = read_locations sharing i s (omega (arith, inside)) read
 
 -- the locations that are read at the owner of record 2 of an instance, whose piece is there
-module _ (sharing : List Locations) (i place : ℕ) (s : Locations) (owners : HasOwners sharing i) (place_is : place ≡ owner_of sharing i 2) (read : s ≡ get_or sharing place s) where
-  at_owner : locations_at sharing (owner_of sharing i 2) ≡ s
-  at_owner = ap (λ (x : ℕ). locations_at sharing x) (sym place_is) ∙ read_locations sharing place s (rw place_is (owners 2).inside) read
-
-  pub third_is_here : s.s2 ≡ Here (piece_here s.s2)
-  third_is_here =
-      let there : s.s2 ≡ Here (owners 2).settled.0 = sym (ap (λ (x : Locations). x.s2) at_owner) ∙ (owners 2).settled.1 in
-      there ∙ ap Here (sym (ap piece_here there))
-
-  pub third_is_seen : piece_here s.s2 ≡ piece_seen sharing i 2
-  third_is_seen = ap (λ (x : Locations). piece_here x.s2) (sym at_owner)
-
-  -- with another piece there, where the instance sees no other, it sees these pieces
-  pub third_exchanged : (o : Pieces) → o.p0 ≡ None → o.p1 ≡ None → o.p3 ≡ None
-      → piece_seen sharing i 0 ≡ None → piece_seen sharing i 1 ≡ None → piece_seen sharing i 3 ≡ None
-      → (x : Location) → x ≡ Here o.p2 → slice_set sharing place (record s { s2 = x }) ≡ with_pieces_of sharing i o
-  third_exchanged o e0 e1 e3 n0 n1 n3 x here =
-      ap (λ (n : ℕ). slice_set sharing n (record s { s2 = x })) place_is
-      ∙ ap (λ (y : Location). slice_set sharing (owner_of sharing i 2) (record s { s2 = y })) here
-      ∙ ap (λ (t : Locations). slice_set sharing (owner_of sharing i 2) (record t { s2 = Here o.p2 })) (sym at_owner)
-      ∙ sym (third_put_alone sharing i owners o e0 e1 e3 n0 n1 n3)

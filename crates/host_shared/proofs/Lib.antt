@@ -6,3 +6,4 @@ pub mod Handing
 pub mod Joined
 pub mod Joinings
 pub mod Ends
+pub mod AtOwners

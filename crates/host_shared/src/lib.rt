@@ -12,8 +12,8 @@ mod tables;
 
 pub use joining::{Sharers, join};
 pub use locations::{
-    Location, Locations, borrow_pieces, borrow_third, give_back_pieces, give_back_third,
-    has_none_but_third, next_with_owner, owner, put_moved, sees, take_to_move,
+    Location, Locations, borrow_pieces, give_back_pieces, next_with_owner, owner, put_moved, sees,
+    take_to_move,
 };
 pub use sharers::{hand_on, next_sharers};
 pub use tables::{empty_sharing, end_sharing};

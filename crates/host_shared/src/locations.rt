@@ -30,18 +30,6 @@ impl Location {
         }
     }
 
-    /// Exchanges the piece, which is here, for this one, in place: no piece is moved from hand to hand.
-    fn exchange(&mut self, piece: &mut Option<Piece>)
-        requires here { self.old ≡ Here (piece_here self.old) }
-        ensures piece { piece.new ≡ piece_here self.old }
-        ensures here { self.new ≡ Here piece.old }
-    {
-        match self {
-            Location::Here(own) => mem::swap(own, piece),
-            Location::At(_owner) => unreachable!(),
-        }
-    }
-
     /// Whether there is no piece, neither here nor at an owner.
     pub(crate) fn is_nothing(&self) -> bool
         ensures { result ≡ true → self.now ≡ Here None }
@@ -101,15 +89,6 @@ impl Locations {
         ensures s3 { result ≡ true → self.now.s3 ≡ Here None }
     {
         self.s0.is_nothing() && self.s3.is_nothing()
-    }
-
-    /// Whether its instance has no piece but maybe that of record 2.
-    fn is_bare_but_third(&self) -> bool
-        ensures s0 { result ≡ true → self.now.s0 ≡ Here None }
-        ensures s1 { result ≡ true → self.now.s1 ≡ Here None }
-        ensures s3 { result ≡ true → self.now.s3 ≡ Here None }
-    {
-        self.s1.is_nothing() && self.s0.is_nothing() && self.s3.is_nothing()
     }
 
     /// Where the piece of record `k` is.
@@ -385,58 +364,6 @@ pub fn give_back_pieces(sharing: &mut Vec<Locations>, i: usize, pieces: Pieces)
         return;
     }
     put_each(sharing, i, pieces);
-}
-
-/// Whether an instance has no piece but maybe that of record 2: of the kinds with a write-once record, most have it there.
-#[inline(always)]
-pub fn has_none_but_third(sharing: &Vec<Locations>, i: usize) -> bool
-    requires number { i < length sharing.now.items }
-    ensures p0 { result ≡ true → piece_seen sharing.now.items i 0 ≡ None }
-    ensures p1 { result ≡ true → piece_seen sharing.now.items i 1 ≡ None }
-    ensures p3 { result ≡ true → piece_seen sharing.now.items i 3 ≡ None }
-{
-    sharing[i].is_bare_but_third()
-}
-
-/// Borrows the piece of record 2 of an instance from its owner, where the instance has no other: [`give_back_third`] returns it. What comes back
-/// is all that the instance has, as of [`borrow_pieces`], but no other record is looked at.
-#[inline(always)]
-pub fn borrow_third(sharing: &mut Vec<Locations>, i: usize) -> Pieces
-    requires number { i < length sharing.old.items }
-    requires owners { HasOwners sharing.old.items i }
-    requires seen0 { piece_seen sharing.old.items i 0 ≡ None }
-    requires seen1 { piece_seen sharing.old.items i 1 ≡ None }
-    requires seen3 { piece_seen sharing.old.items i 3 ≡ None }
-    ensures pieces { result ≡ shared_at sharing.old.items i }
-    ensures left { sharing.new.items ≡ with_pieces_of sharing.old.items i no_pieces }
-    ensures length { length sharing.new.items ≡ length sharing.old.items }
-    ensures owners { HasOwners sharing.new.items i }
-    ensures none { shared_at sharing.new.items i ≡ no_pieces }
-{
-    let mut pieces = Pieces::none();
-    let at = owner(sharing, i, 2);
-    sharing[at].s2.exchange(&mut pieces.p2);
-    pieces
-}
-
-/// Gives the piece of record 2 of an instance back to its owner, who has none, where the instance has no other: its owner has again what
-/// [`borrow_third`] took.
-#[inline(always)]
-pub fn give_back_third(sharing: &mut Vec<Locations>, i: usize, pieces: Pieces)
-    requires number { i < length sharing.old.items }
-    requires owners { HasOwners sharing.old.items i }
-    requires none { shared_at sharing.old.items i ≡ no_pieces }
-    requires p0 { pieces.p0 ≡ None }
-    requires p1 { pieces.p1 ≡ None }
-    requires p3 { pieces.p3 ≡ None }
-    ensures left { sharing.new.items ≡ with_pieces_of sharing.old.items i pieces }
-    ensures length { length sharing.new.items ≡ length sharing.old.items }
-    ensures owners { HasOwners sharing.new.items i }
-{
-    let mut left = pieces;
-    let at = owner(sharing, i, 2);
-    sharing[at].s2.exchange(&mut left.p2);
-    end_absent(left);
 }
 
 /// Whether the owner of record `k` has its piece.

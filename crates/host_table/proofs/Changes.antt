@@ -31,7 +31,8 @@ use Rattle.host_table.specs.Table.{slot_at, group_at, AreHeld, AreBare, no_group
 use Rattle.host_map.specs.Activity.{with_at}
 use Rattle.host_table.specs.Refinement.{InstRefines, SlotRefines, SlotsRefine, with_history}
 use Rattle.host_table.specs.Frames.{SameSlot, SameTables, SameMember}
-use Rattle.host_table.proofs.Housing.{same_blocks, housed_stays}
+use Rattle.lifecycle.proofs.Groups.{same_blocks}
+use Rattle.host_table.proofs.Housing.{housed_stays}
 use Rattle.host_shared.proofs.Lent.{stands_lent, pieces_lent, owners_of_all}
 use Rattle.host_table.proofs.Held.{member_stays, members_beside, owners_of_held, held_stays, bare_stays}
 use Rattle.host_table.proofs.Sights.{Sees, sees_lent, slot_sees}

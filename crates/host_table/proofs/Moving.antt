@@ -4,24 +4,21 @@ use Rattle.std.specs.Prelude.{slice_index_or}
 use Rattle.std.proofs.lemmas.Option.{same_Some}
 use Rattle.mem_rec.specs.declared.Space.{Space}
 use Rattle.mem_rec.specs.declared.TheConstants.{INSTANCES, GROUPS}
-use Rattle.ialg.specs.History.{History}
 use Rattle.ialg.specs.Laws.{Laws}
 use Rattle.record_loans.specs.declared.pieces.Pieces.{Pieces}
-use Rattle.record_loans.specs.Pieces.{SamePieces, no_pieces}
 use Rattle.record_loans.specs.Blocks.{IsSameBlock}
 use Rattle.scratch_group.specs.declared.group.Group.{Group}
-use Rattle.scratch_group.specs.Blocks.{block_in, SameGroup}
+use Rattle.scratch_group.specs.Blocks.{block_in}
 use Rattle.lifecycle.specs.declared.active.Active.{Active}
 use Rattle.lifecycle.specs.declared.idle.Idle.{Idle}
 use Rattle.lifecycle.specs.declared.instance.Inst.{Inst}
 use Rattle.lifecycle.specs.declared.instance.Inst.TheVariants.{Idling, Running}
-use Rattle.lifecycle.specs.Moves.{HasRoom, settled}
-use Rattle.lifecycle.specs.States.{ActiveRefines, Fits, IdleRefines, SameInstance, SameOnce}
+use Rattle.lifecycle.specs.States.{SameOnce}
+use Rattle.lifecycle.specs.Turns.{ActiveFollowsSharing, CanBeLentAgain, IdleFollows}
 use Rattle.lifecycle.proofs.Frames.{same_group}
 use Rattle.host_shared.specs.declared.locations.Locations.{Locations}
 use Rattle.host_shared.specs.Locations.{shared_at}
-use Rattle.host_shared.specs.Owners.{AllHaveOwners, HasOwners, with_pieces_of}
-use Rattle.host_shared.proofs.Lent.{put_back}
+use Rattle.host_shared.specs.Owners.{AllHaveOwners, HasOwners, OnlyItsPiecesChange, with_pieces_of}
 use Rattle.host_table.specs.declared.member.Member.{Member}
 use Rattle.host_table.specs.Frames.{InactiveGroupsStay, SameMember}
 use Rattle.host_table.specs.Table.{slot_at, group_at, instance_of, is_member_of, slot_active_in, activity_at, IsHoused, IsTold, SameActivities, TablesTold}
@@ -30,7 +27,8 @@ use Rattle.host_table.specs.View.{View}
 use Rattle.host_table.proofs.Activities.{activity_stays, group_change, inactive_beside}
 use Rattle.host_table.proofs.Changes.{owners_in, read_ok_slot, read_ok_group, kept_in_slot, tables_by_change, keeps_after_change, blocks_stay, pieces_stay, group_inside, once_inside, slot_in}
 use Rattle.host_table.proofs.Held.{in_group, once_unplaced, owners_of_held}
-use Rattle.host_table.proofs.Housing.{same_blocks, settled_stays, settled_at}
+use Rattle.lifecycle.proofs.Groups.{same_blocks}
+use Rattle.host_table.proofs.Housing.{settled_stays, settled_at}
 use Rattle.host_table.proofs.Idles.{tables_by_quiet, keeps_after_end}
 use Rattle.host_table.proofs.Stepping.{tables}
 use Rattle.host_table.proofs.Told.{member_is, is_told, told_here, told_beside, told_member, members_after, members_after_quiet}
@@ -57,116 +55,110 @@ module _ {M : Type 0} {instances : List (Option (Member M))} {sharing : List Loc
   group_in : (y : Group) → y ≡ slice_index_or groups g y → group_at groups g ≡ y
   group_in y at_group = read_ok_group instances sharing groups held g range y at_group
 
-  pub room : {inst : Inst M} {o : Pieces} {y : Group} → m.inst ≡ inst → o ≡ shared_at sharing i → y ≡ slice_index_or groups g y → HasRoom (instance_of inst) o y
-  room {y = y} inst_is borrowed at_group = rw (inst_is, of_group, ← borrowed, group_in y at_group) at ((held.housed i m in_slot).waits of_group)
+  pub can_be_lent : {inst : Inst M} {y : Group} → m.inst ≡ inst → y ≡ slice_index_or groups g y → CanBeLentAgain (instance_of inst) None sharing i y
+  can_be_lent {y = y} inst_is at_group = record {
+    number = once_inside instances sharing groups held i m in_slot;
+    owners = owners;
+    room = rw (inst_is, of_group, group_in y at_group) at ((held.housed i m in_slot).waits of_group);
+  }
 
-  -- an idle one, whose pieces are back
-  module _ {s s' : Idle M} {o o' : Pieces} {y : Group} {sharing' sharing'' : List Locations}
-      (inst_is : m.inst ≡ Idling s) (borrowed : o ≡ shared_at sharing i) (at_group : y ≡ slice_index_or groups g y)
-      (left : sharing' ≡ with_pieces_of sharing i no_pieces) (back : sharing'' ≡ with_pieces_of sharing' i o')
-      (same : SameInstance (settled s.instance o y) s'.instance) (pieces : SamePieces o o') (once : SameOnce s'.instance.table o o') where
+  -- an idle one
+  module _ {laws : Laws M} {s s' : Idle M} {y : Group} {sharing' : List Locations}
+      (inst_is : m.inst ≡ Idling s) (at_group : y ≡ slice_index_or groups g y) (seen : OnlyItsPiecesChange i sharing sharing') (did : IdleFollows laws None i s sharing s' sharing' y) where
     abbrev idle : Member M
     idle = record { group = m.group; inst = Idling s' }
+
+    abbrev idle_sees : Pieces
+    idle_sees = shared_at sharing' i
 
     was : slot_active_in (slot_at instances i) ≡ None
     was = rw (in_slot, inst_is) refl
 
-    idle_back : sharing'' ≡ with_pieces_of sharing i o'
-    idle_back = put_back sharing i owners sharing' sharing'' o' left back
-
     idle_same : SameMember m idle
-    idle_same = told_member m (Idling s') o y (rw inst_is same)
+    idle_same = told_member m (Idling s') (shared_at sharing i) y (rw inst_is did.same)
 
-    idle_pieces : SamePieces (shared_at sharing i) o'
-    idle_pieces = rw (← borrowed) pieces
+    idle_written : SameOnce (instance_of m.inst).table (shared_at sharing i) idle_sees
+    idle_written = once_unplaced (instance_of m.inst).table s'.instance.table (shared_at sharing i) idle_sees idle_same.table did.written
 
-    idle_written : SameOnce (instance_of m.inst).table (shared_at sharing i) o'
-    idle_written = once_unplaced (instance_of m.inst).table s'.instance.table (shared_at sharing i) o' idle_same.table (rw (← borrowed) once)
-
-    pub idle_told : Fits s'.instance.table s'.instance.own o' y → TablesTold g (i + 1) (set instances i (Some idle)) sharing'' groups
-    idle_told fits =
-        let housed : IsHoused s'.instance o' y = record { fits = fits; settled = settled_stays s.instance s'.instance o o' y same pieces } in
-        rw idle_back
-        (tables_by_quiet (IsTold g i) instances sharing groups i (Some idle) o' held number was refl m in_slot idle_pieces idle_written
+    pub idle_told : TablesTold g (i + 1) (set instances i (Some idle)) sharing' groups
+    idle_told =
+        let housed : IsHoused s'.instance idle_sees y = record { fits = did.fits; settled = settled_stays s.instance s'.instance (shared_at sharing i) idle_sees y did.same did.pieces } in
+        rw seen
+        (tables_by_quiet (IsTold g i) instances sharing groups i (Some idle) idle_sees held number was refl m in_slot did.pieces idle_written
         (IsTold g (i + 1)) idle refl idle_same (rw of_group range)
-        (is_told g (i + 1) i idle o' (group_at groups m.group) (rw (of_group, group_in y at_group) housed))
-        (λ j n apart here before. told_beside g i j n (shared_at sharing j) (shared_at (with_pieces_of sharing i o') j) (group_at groups n.group) (group_at groups n.group) apart
-        (pieces_stay sharing i o' (once_inside instances sharing groups held i m in_slot) all_owners idle_pieces j)
+        (is_told g (i + 1) i idle idle_sees (group_at groups m.group) (rw (of_group, group_in y at_group) housed))
+        (λ j n apart here before. told_beside g i j n (shared_at sharing j) (shared_at (with_pieces_of sharing i idle_sees) j) (group_at groups n.group) (group_at groups n.group) apart
+        (pieces_stay sharing i idle_sees (once_inside instances sharing groups held i m in_slot) all_owners did.pieces j)
         (λ space. same_blocks _ _ (same_group (group_at groups n.group)) space) before))
 
-    pub idle_stays : MembersStay t (tables (set instances i (Some idle)) sharing'' groups)
+    pub idle_stays : MembersStay t (tables (set instances i (Some idle)) sharing' groups)
     idle_stays =
-        rw (← view, idle_back)
-        (members_after_quiet instances sharing groups i m idle o' (slot_in instances i m in_slot) (once_inside instances sharing groups held i m in_slot) all_owners in_slot idle_same idle_pieces)
+        rw (← view, seen)
+        (members_after_quiet instances sharing groups i m idle idle_sees (slot_in instances i m in_slot) (once_inside instances sharing groups held i m in_slot) all_owners in_slot idle_same did.pieces)
 
-    pub idle_keeps : (laws : Laws M) → ((w : Option ℤ) (h : History) → IdleRefines laws s.instance w o h → IdleRefines laws s'.instance w o' h) → AllHistoriesStay laws t (tables (set instances i (Some idle)) sharing'' groups)
-    idle_keeps laws keeps =
-        rw (← view, idle_back)
+    pub idle_keeps : AllHistoriesStay laws t (tables (set instances i (Some idle)) sharing' groups)
+    idle_keeps =
+        rw (← view, seen)
         (λ w histories kept.
-        keeps_after_end (IsTold g i) instances sharing groups i (Some idle) o' held number was refl m in_slot idle_pieces idle_written laws w histories
-        (keeps w (histories i) (kept_in_slot instances sharing groups i in_slot inst_is (sym borrowed) refl laws w histories kept)) kept)
+        keeps_after_end (IsTold g i) instances sharing groups i (Some idle) idle_sees held number was refl m in_slot did.pieces idle_written laws w histories
+        (did.keeps w (histories i) (kept_in_slot instances sharing groups i in_slot inst_is refl refl laws w histories kept)) kept)
 
-  -- the active one, whose pieces are back
-  module _ {s s' : Active M} {o o' : Pieces} {y y' : Group} {sharing' sharing'' : List Locations}
-      (inst_is : m.inst ≡ Running s) (borrowed : o ≡ shared_at sharing i) (at_group : y ≡ slice_index_or groups g y)
-      (left : sharing' ≡ with_pieces_of sharing i no_pieces) (back : sharing'' ≡ with_pieces_of sharing' i o')
-      (same : SameInstance (settled s.instance o y) s'.instance) (pieces : SamePieces o o') (once : SameOnce s'.instance.table o o') (group : SameGroup y y') where
+  -- the active one
+  module _ {laws : Laws M} {s s' : Active M} {y y' : Group} {sharing' : List Locations}
+      (inst_is : m.inst ≡ Running s) (at_group : y ≡ slice_index_or groups g y) (seen : OnlyItsPiecesChange i sharing sharing') (did : ActiveFollowsSharing laws None i s sharing s' sharing' y y') where
     abbrev active : Member M
     active = record { group = m.group; inst = Running s' }
+
+    abbrev active_sees : Pieces
+    active_sees = shared_at sharing' i
 
     known : (group_at groups g).active ≡ Some i
     known = held.active_known g i (rw (in_slot, inst_is, of_group) refl)
 
-    active_back : sharing'' ≡ with_pieces_of sharing i o'
-    active_back = put_back sharing i owners sharing' sharing'' o' left back
-
     active_same : SameMember m active
-    active_same = told_member m (Running s') o y (rw inst_is same)
+    active_same = told_member m (Running s') (shared_at sharing i) y (rw inst_is did.same)
 
-    active_pieces : SamePieces (shared_at sharing i) o'
-    active_pieces = rw (← borrowed) pieces
-
-    active_written : SameOnce (instance_of m.inst).table (shared_at sharing i) o'
-    active_written = once_unplaced (instance_of m.inst).table s'.instance.table (shared_at sharing i) o' active_same.table (rw (← borrowed) once)
+    active_written : SameOnce (instance_of m.inst).table (shared_at sharing i) active_sees
+    active_written = once_unplaced (instance_of m.inst).table s'.instance.table (shared_at sharing i) active_sees active_same.table did.written
 
     active_blocks : (space : Space) → IsSameBlock (block_in (group_at groups g) space) (block_in y' space)
-    active_blocks space = rw (group_in y at_group) (same_blocks y y' group space)
+    active_blocks space = rw (group_in y at_group) (same_blocks y y' did.group space)
 
     alone : (j : ℕ) → (group_at groups g).active ≡ Some j → j ≡ i
     alone j other = same_Some j i (sym other ∙ known)
 
     now : y'.active ≡ Some i
-    now = group.active ∙ rw (group_in y at_group) at known
+    now = did.group.active ∙ rw (group_in y at_group) at known
 
-    pub active_told : Fits s'.instance.table s'.instance.own o' y' → TablesTold g (i + 1) (set instances i (Some active)) sharing'' (set groups g y')
-    active_told fits =
-        let housed : IsHoused s'.instance o' y' = record { fits = fits; settled = settled_at s.instance s'.instance o o' y y' same pieces (λ space. same_blocks y y' group space) } in
-        rw (of_group, active_back)
-        (tables_by_change (IsTold g i) instances sharing groups i g m (Running s') o' y' held in_slot of_group alone now active_pieces active_written
+    pub active_told : TablesTold g (i + 1) (set instances i (Some active)) sharing' (set groups g y')
+    active_told =
+        let housed : IsHoused s'.instance active_sees y' =
+        record { fits = did.fits; settled = settled_at s.instance s'.instance (shared_at sharing i) active_sees y y' did.same did.pieces (λ space. same_blocks y y' did.group space) } in
+        rw (of_group, seen)
+        (tables_by_change (IsTold g i) instances sharing groups i g m (Running s') active_sees y' held in_slot of_group alone now did.pieces active_written
         (IsTold g (i + 1)) (in_group m g (Running s') of_group active_same)
-        (told_here g i sharing groups o' y' (record { group = g; inst = Running s' }) owners (group_inside instances sharing groups held g range) housed)
-        (λ j n apart here before. told_beside g i j n (shared_at sharing j) (shared_at (with_pieces_of sharing i o') j) (group_at groups n.group) (group_at (set groups g y') n.group) apart
-        (pieces_stay sharing i o' (once_inside instances sharing groups held i m in_slot) all_owners active_pieces j)
+        (told_here g i sharing groups active_sees y' (record { group = g; inst = Running s' }) owners (group_inside instances sharing groups held g range) housed)
+        (λ j n apart here before. told_beside g i j n (shared_at sharing j) (shared_at (with_pieces_of sharing i active_sees) j) (group_at groups n.group) (group_at (set groups g y') n.group) apart
+        (pieces_stay sharing i active_sees (once_inside instances sharing groups held i m in_slot) all_owners did.pieces j)
         (blocks_stay groups g y' (group_inside instances sharing groups held g range) active_blocks n.group) before))
 
     pub active_inactive : InactiveGroupsStay t.groups (set groups g y')
     active_inactive = rw (← view) (inactive_beside groups g i y' known)
 
-    pub active_stays : MembersStay t (tables (set instances i (Some active)) sharing'' (set groups g y'))
+    pub active_stays : MembersStay t (tables (set instances i (Some active)) sharing' (set groups g y'))
     active_stays =
-        rw (← view, active_back)
-        (members_after instances sharing groups i g m active o' y' (slot_in instances i m in_slot) (once_inside instances sharing groups held i m in_slot) all_owners (group_inside instances sharing groups held g range) in_slot active_same active_pieces active_blocks)
+        rw (← view, seen)
+        (members_after instances sharing groups i g m active active_sees y' (slot_in instances i m in_slot) (once_inside instances sharing groups held i m in_slot) all_owners (group_inside instances sharing groups held g range) in_slot active_same did.pieces active_blocks)
 
     pub active_activity : SameActivities t.groups (set groups g y')
     active_activity =
         rw (← view)
         (λ k. group_change groups g y' (group_inside instances sharing groups held g range) k
-        ∙ activity_stays (activity_at groups) g _ (rw (group_in y at_group) group.active) (rw (group_in y at_group) group.activations) k)
+        ∙ activity_stays (activity_at groups) g _ (rw (group_in y at_group) did.group.active) (rw (group_in y at_group) did.group.activations) k)
 
-    pub active_keeps : (laws : Laws M) → ((w : Option ℤ) (h : History) → ActiveRefines laws s.instance w o y h → ActiveRefines laws s'.instance w o' y' h)
-        → AllHistoriesStay laws t (tables (set instances i (Some active)) sharing'' (set groups g y'))
-    active_keeps laws keeps =
-        rw (← view, of_group, active_back)
+    pub active_keeps : AllHistoriesStay laws t (tables (set instances i (Some active)) sharing' (set groups g y'))
+    active_keeps =
+        rw (← view, of_group, seen)
         (λ w histories kept.
-        keeps_after_change (IsTold g i) instances sharing groups i g m (Running s') o' y' held in_slot of_group alone now active_pieces active_written laws w histories
-        (λ before. keeps w (histories i) (rw (← borrowed, group_in y at_group, inst_is) at before)) kept)
+        keeps_after_change (IsTold g i) instances sharing groups i g m (Running s') active_sees y' held in_slot of_group alone now did.pieces active_written laws w histories
+        (λ before. did.keeps w (histories i) (rw (group_in y at_group, inst_is) at before)) kept)

@@ -31,7 +31,7 @@ use Rattle.host_shared.proofs.Owners.{count_seen, lent_here, seen_shared, seen_a
 use Rattle.host_shared.proofs.Lent.{four_locations, no_location, seen_at, stands_lent, pieces_lent, owners_of_all}
 use Rattle.lifecycle.specs.declared.instance.Inst.{Inst}
 use Rattle.lifecycle.specs.declared.instance.Inst.TheVariants.{Idling}
-use Rattle.host_table.specs.Turns.{HasBegun}
+use Rattle.lifecycle.specs.Turns.{HasBegun}
 use Rattle.host_table.proofs.Changes.{read_there}
 use Rattle.host_table.proofs.Held.{same_shape, same_members_slot, sharer_of_member, owners_of_held, held_stays, bare_stays, alike_at}
 use Rattle.host_table.proofs.Sights.{Views}

@@ -24,7 +24,8 @@ use Rattle.host_shared.specs.Owners.{with_pieces_of, HasOwners, AllHaveOwners, S
 use Rattle.host_table.specs.Table.{slot_at, group_at, no_group, instance_of, is_member_of, IsHoused, IsTold, TablesOk, TablesTold}
 use Rattle.host_shared.specs.Locations.{shared_at}
 use Rattle.host_table.specs.Frames.{SameMember, IsSameMember, SameMembers}
-use Rattle.host_table.proofs.Housing.{same_blocks, room_of_housed, room_stays, housed_stays}
+use Rattle.lifecycle.proofs.Groups.{same_blocks}
+use Rattle.host_table.proofs.Housing.{room_of_housed, room_stays, housed_stays}
 use Rattle.host_shared.proofs.Owners.{lent_here}
 use Rattle.host_shared.proofs.Lent.{same_locations, stands_lent, owners_of_all}
 use Rattle.host_table.proofs.Held.{same_members_slot}

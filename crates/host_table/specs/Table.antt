@@ -5,8 +5,6 @@ use Rattle.mem_rec.specs.declared.Space.{Space}
 use Rattle.mem_rec.specs.declared.Attr.TheVariants.{WriteOnce}
 use Rattle.ialg.specs.Records.{record_at}
 use Rattle.record_loans.specs.declared.pieces.Pieces.{Pieces}
-use Rattle.scratch_group.specs.declared.plan.ShortLoan.{ShortLoan}
-use Rattle.scratch_group.specs.ShortLoans.{IsShortLoan}
 use Rattle.scratch_group.specs.declared.group.Group.{Group}
 use Rattle.host_map.specs.Activity.{Activity, never_activated, newly_active, without_active, activated, deactivated, with_at}
 use Rattle.scratch_group.specs.Blocks.{BlocksArePoison, block_in}
@@ -66,16 +64,6 @@ slot_active_in (Some m) = active_in m.group m.inst
 -- the instance in slot i is active, in its group
 abbrev pub IsActiveAt : {M : Type 0} → List (Option (Member M)) → ℕ → Type 0
 IsActiveAt instances i = slot_active_in (slot_at instances i) ≡ Some (group_of (slot_at instances i))
-
--- the instance is active, and its records are lent without a plan, as this says
-abbrev pub RunsByShortLoan : {M : Type 0} → Inst M → ShortLoan → Type 0
-RunsByShortLoan (Idling s) loan = ⊥
-RunsByShortLoan (Running s) loan = IsShortLoan s.instance.table loan
-
--- the same of the instance in a slot
-abbrev pub HasShortLoan : {M : Type 0} → Option (Member M) → ShortLoan → Type 0
-HasShortLoan None loan = ⊥
-HasShortLoan (Some m) loan = RunsByShortLoan m.inst loan
 
 -- the instance has the words of its records, and goes by their places
 pub record IsHoused {M : Type 0} (s : Instance M) (shared : Pieces) (g : Group) : Type 0 where

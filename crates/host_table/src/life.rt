@@ -1,10 +1,9 @@
 //! The start and the end of instances.
 ghost use Rattle.std.specs.Prelude.{◌≡◌, ◌<◌, ℕ, Option, Some, None, IsSome, length, slice_set};
 ghost use Rattle.record_loans.specs.Pieces.{SamePieces, no_pieces};
-ghost use Rattle.lifecycle.specs.States.{FitsIn, SameOnce};
 ghost use Rattle.lifecycle.specs.declared.instance.Inst.TheVariants.{Idling};
 ghost use Rattle.mem_rec.specs.declared.TheConstants.{INSTANCES, GROUPS};
-ghost use Rattle.host_shared.specs.Locations.{piece_seen, shared_at};
+ghost use Rattle.host_shared.specs.Locations.{shared_at};
 ghost use Rattle.host_shared.specs.Sharing.{left_with, next_sharer, AreLeast};
 ghost use Rattle.host_table.specs.Table.{slot_at, own_of, instance_of, active_in, IsIdleAt};
 ghost use Rattle.host_table.specs.Sharers.{AreLeastSharers, AreTogether};
@@ -14,18 +13,16 @@ ghost use Rattle.host_table.specs.Steps.{Ready, AreConsistent, HistoriesStay, Wa
 ghost use Rattle.host_table.specs.Frames.{IsEnded, OtherSlotsStay};
 ghost use Rattle.host_table.specs.Starts.{asked_for, BeginsHistory, HasRoomWithSharers, IsStartedWithSharers, JoinsItsSharers, OtherInstancesStay, SeesItsPieces, SharedHaveNone};
 ghost use Rattle.host_table.specs.Ends.{HandsOnRecords, NextSharersAreLeast, OtherInstancesAreSame, StayTogether};
-ghost use Rattle.host_table.specs.Turns.{CanBeLent, CanBegin, WasStarted, WasFreed, IsEndedAt, SeesTheSame, SlotCanBeLent, SlotKeepsOnce, idle_of};
+ghost use Rattle.lifecycle.specs.Turns.{CanBeRead, CanBegin, WasStarted};
+ghost use Rattle.host_table.specs.Turns.{WasFreed, IsEndedAt, SeesTheSame, SlotCanBeRead, SlotKeepsOnce, idle_of};
 
 use crate::{Member, Tables};
-use host_shared::{
-    Locations, Sharers, borrow_pieces, borrow_third, give_back_pieces, give_back_third, hand_on,
-    has_none_but_third, join,
-};
+use host_shared::{Locations, Sharers, hand_on, join};
 use ialg::{Ialg, Params};
 use lifecycle::{Idle, Inst};
 use mem_rec::MemTab;
 use record_loans::{Pieces, end_absent};
-use scratch_group::{Group, is_filter};
+use scratch_group::Group;
 use std::mem;
 
 /// An instance that is to be created.
@@ -111,59 +108,6 @@ pub fn start<M: Ialg>(
     }
 }
 
-/// Starts an idle instance, with its write-once records borrowed from their owners.
-#[inline(never)]
-fn start_each<M: Ialg>(idle: &mut Idle<M>, sharing: &mut Vec<Locations>, i: u8, group: &Group)
-    requires { CanBegin idle.old.instance sharing.old.items i group.now }
-    ensures { WasStarted M.law i idle.old idle.new sharing.old.items sharing.new.items group.now }
-{
-    let mut shared = borrow_pieces(sharing, i as usize);
-    idle.start(&mut shared, group);
-    give_back_pieces(sharing, i as usize, shared);
-}
-
-/// Starts an idle instance, as [`start_each`] does, that has no write-once record but maybe record 2: its piece alone is borrowed.
-#[inline(always)]
-fn start_third<M: Ialg>(idle: &mut Idle<M>, sharing: &mut Vec<Locations>, i: u8, group: &Group)
-    requires can { CanBegin idle.old.instance sharing.old.items i group.now }
-    requires seen0 { piece_seen sharing.old.items i 0 ≡ None }
-    requires seen1 { piece_seen sharing.old.items i 1 ≡ None }
-    requires seen3 { piece_seen sharing.old.items i 3 ≡ None }
-    ensures { WasStarted M.law i idle.old idle.new sharing.old.items sharing.new.items group.now }
-{
-    let mut shared = borrow_third(sharing, i as usize);
-    idle.start(&mut shared, group);
-    give_back_third(sharing, i as usize, shared);
-}
-
-/// Starts an idle instance, with its write-once records borrowed from their owners. Most that have any have record 2 alone.
-#[inline(never)]
-fn start_sharing<M: Ialg>(idle: &mut Idle<M>, sharing: &mut Vec<Locations>, i: u8, group: &Group)
-    requires { CanBegin idle.old.instance sharing.old.items i group.now }
-    ensures { WasStarted M.law i idle.old idle.new sharing.old.items sharing.new.items group.now }
-{
-    if has_none_but_third(sharing, i as usize) {
-        start_third(idle, sharing, i, group);
-    } else {
-        start_each(idle, sharing, i, group);
-    }
-}
-
-/// Starts an idle instance, as [`start_sharing`] does. A filter has no write-once record, so nothing is borrowed for it: most instances are
-/// filters.
-fn start_idle<M: Ialg>(idle: &mut Idle<M>, sharing: &mut Vec<Locations>, i: u8, group: &Group)
-    requires { CanBegin idle.old.instance sharing.old.items i group.now }
-    ensures { WasStarted M.law i idle.old idle.new sharing.old.items sharing.new.items group.now }
-{
-    if is_filter(&idle.instance.table) {
-        let mut none = Pieces::none();
-        idle.start(&mut none, group);
-        end_absent(none);
-    } else {
-        start_sharing(idle, sharing, i, group);
-    }
-}
-
 /// Starts an instance that is idle, in its slot. Moved into the slot once it was started, it would be copied whole.
 fn start_member<M: Ialg>(inst: &mut Inst<M>, sharing: &mut Vec<Locations>, i: u8, group: &Group)
     requires idle { (g : ℕ) → active_in g inst.old ≡ None }
@@ -172,7 +116,7 @@ fn start_member<M: Ialg>(inst: &mut Inst<M>, sharing: &mut Vec<Locations>, i: u8
     ensures started { WasStarted M.law i (idle_of inst.old) (idle_of inst.new) sharing.old.items sharing.new.items group.now }
 {
     match inst {
-        Inst::Idling(idle) => start_idle(idle, sharing, i, group),
+        Inst::Idling(idle) => idle.start(sharing, i, group),
         Inst::Running(_active) => unreachable!(),
     }
 }
@@ -202,123 +146,28 @@ pub fn end<M: Ialg>(
     ensures keeps { HistoriesStay M.law poison tables.old tables.new }
 {
     tables.deactivate(poison, i);
-    let g = tables.group_number(i);
-    let own = end_idle(
-        &mut tables.instances,
-        &mut tables.sharing,
-        i,
-        &tables.groups[g as usize],
-    );
+    let own = end_idle(&mut tables.instances, &mut tables.sharing, i);
     (own, hand_on(&mut tables.sharing, i, next))
 }
 
 /// Tells the kind of an idle instance by algFree that it ends, and takes its own pieces out of it.
-///
-/// Inlined, so that for an instance without write-once records the compiler drops the empty `Pieces`.
-#[inline(always)]
-fn free_lent<M: Ialg>(idle: &mut Idle<M>, shared: &mut Pieces, group: &Group) -> Pieces
-    requires fits { FitsIn idle.old.instance shared.old group.now }
-    ensures own { SamePieces idle.old.instance.own result }
-    ensures shared { SamePieces shared.old shared.new }
-    ensures once { SameOnce idle.old.instance.table shared.old shared.new }
-    ensures left { idle.new.instance.own ≡ no_pieces }
+fn free_idle<M: Ialg>(idle: &mut Idle<M>, sharing: &mut Vec<Locations>, i: u8) -> Pieces
+    requires lent { CanBeRead idle.old.instance sharing.old.items i }
+    ensures { WasFreed i idle.old idle.new sharing.old.items sharing.new.items result }
 {
-    let _told = idle.freed(shared, group);
+    let _told = idle.freed(sharing, i);
     mem::replace(&mut idle.instance.own, Pieces::none())
 }
 
-/// Tells the kind of an idle instance that it ends, as [`free_lent`] does, with its write-once records borrowed from their owners.
-#[inline(never)]
-fn free_each<M: Ialg>(
-    idle: &mut Idle<M>,
-    sharing: &mut Vec<Locations>,
-    i: u8,
-    group: &Group,
-) -> Pieces
-    requires lent { CanBeLent idle.old.instance sharing.old.items i group.now }
-    ensures { WasFreed i idle.old idle.new sharing.old.items sharing.new.items result }
-{
-    let mut shared = borrow_pieces(sharing, i as usize);
-    let own = free_lent(idle, &mut shared, group);
-    give_back_pieces(sharing, i as usize, shared);
-    own
-}
-
-/// Tells the kind of an idle instance that it ends, as [`free_each`] does, that has no write-once record but maybe record 2: its piece alone
-/// is borrowed.
-#[inline(always)]
-fn free_third<M: Ialg>(
-    idle: &mut Idle<M>,
-    sharing: &mut Vec<Locations>,
-    i: u8,
-    group: &Group,
-) -> Pieces
-    requires lent { CanBeLent idle.old.instance sharing.old.items i group.now }
-    requires seen0 { piece_seen sharing.old.items i 0 ≡ None }
-    requires seen1 { piece_seen sharing.old.items i 1 ≡ None }
-    requires seen3 { piece_seen sharing.old.items i 3 ≡ None }
-    ensures { WasFreed i idle.old idle.new sharing.old.items sharing.new.items result }
-{
-    let mut shared = borrow_third(sharing, i as usize);
-    let own = free_lent(idle, &mut shared, group);
-    give_back_third(sharing, i as usize, shared);
-    own
-}
-
-/// Tells the kind of an idle instance that it ends, as [`free_lent`] does, with its write-once records borrowed from their owners. Most that have
-/// any have record 2 alone.
-#[inline(never)]
-fn free_sharing<M: Ialg>(
-    idle: &mut Idle<M>,
-    sharing: &mut Vec<Locations>,
-    i: u8,
-    group: &Group,
-) -> Pieces
-    requires lent { CanBeLent idle.old.instance sharing.old.items i group.now }
-    ensures { WasFreed i idle.old idle.new sharing.old.items sharing.new.items result }
-{
-    if has_none_but_third(sharing, i as usize) {
-        free_third(idle, sharing, i, group)
-    } else {
-        free_each(idle, sharing, i, group)
-    }
-}
-
-/// Tells the kind of an idle instance that it ends, as [`free_sharing`] does. A filter has no write-once record, so nothing is borrowed for
-/// it: most instances are filters.
-fn free_idle<M: Ialg>(
-    idle: &mut Idle<M>,
-    sharing: &mut Vec<Locations>,
-    i: u8,
-    group: &Group,
-) -> Pieces
-    requires lent { CanBeLent idle.old.instance sharing.old.items i group.now }
-    ensures { WasFreed i idle.old idle.new sharing.old.items sharing.new.items result }
-{
-    if is_filter(&idle.instance.table) {
-        let mut none = Pieces::none();
-        let own = free_lent(idle, &mut none, group);
-        end_absent(none);
-        own
-    } else {
-        free_sharing(idle, sharing, i, group)
-    }
-}
-
 /// Tells the kind of an instance that is idle that it ends, and takes its own pieces out of it.
-fn free_member<M: Ialg>(
-    inst: &mut Inst<M>,
-    sharing: &mut Vec<Locations>,
-    i: u8,
-    group: &Group,
-) -> Pieces
+fn free_member<M: Ialg>(inst: &mut Inst<M>, sharing: &mut Vec<Locations>, i: u8) -> Pieces
     requires idle { (g : ℕ) → active_in g inst.old ≡ None }
-    requires lent { CanBeLent (instance_of inst.old) sharing.old.items i group.now }
+    requires lent { CanBeRead (instance_of inst.old) sharing.old.items i }
     ensures freed { WasFreed i (idle_of inst.old) (idle_of inst.new) sharing.old.items sharing.new.items result }
     ensures left { IsEnded inst.new }
 {
     match inst {
-        Inst::Idling(idle) => free_idle(idle, sharing, i, group),
+        Inst::Idling(idle) => free_idle(idle, sharing, i),
         Inst::Running(_active) => unreachable!(),
     }
 }
@@ -343,11 +192,10 @@ fn end_idle<M: Ialg>(
     instances: &mut Vec<Option<Member<M>>>,
     sharing: &mut Vec<Locations>,
     i: u8,
-    group: &Group,
 ) -> Pieces
     requires living { IsSome (slot_at instances.old.items i) }
     requires idle { IsIdleAt instances.old.items i }
-    requires lent { SlotCanBeLent instances.old.items sharing.old.items i group.now }
+    requires lent { SlotCanBeRead instances.old.items sharing.old.items i }
     ensures emptied { instances.new.items ≡ slice_set instances.old.items i None }
     ensures gone { slot_at instances.new.items i ≡ None }
     ensures others { OtherSlotsStay i instances.old.items instances.new.items }
@@ -357,7 +205,7 @@ fn end_idle<M: Ialg>(
     ensures once { SlotKeepsOnce instances.old.items i sharing.old.items sharing.new.items }
 {
     let own = match &mut instances[i as usize] {
-        Some(member) => free_member(&mut member.inst, sharing, i, group),
+        Some(member) => free_member(&mut member.inst, sharing, i),
         None => unreachable!(),
     };
     empty_slot(instances, i);

@@ -6,7 +6,6 @@ ghost use Rattle.host_table.specs.Frames.{InactiveGroupsStay};
 ghost use Rattle.host_table.specs.Steps.{AreConsistent, AllHistoriesStay, MembersAreTold, MembersStay};
 
 use crate::Tables;
-use host_shared::{borrow_pieces, give_back_pieces};
 use ialg::Ialg;
 use lifecycle::Inst;
 use mem_rec::INSTANCES;
@@ -37,14 +36,10 @@ fn call_moved_of_member<M: Ialg>(tables: &mut Tables<M>, g: u8, i: usize)
     match &mut tables.instances[i] {
         Some(member) => match &mut member.inst {
             Inst::Idling(idle) => {
-                let mut shared = borrow_pieces(&mut tables.sharing, i);
-                idle.moved(None, &mut shared, &tables.groups[g as usize]);
-                give_back_pieces(&mut tables.sharing, i, shared);
+                idle.moved(None, &mut tables.sharing, i, &tables.groups[g as usize]);
             }
             Inst::Running(active) => {
-                let mut shared = borrow_pieces(&mut tables.sharing, i);
-                active.moved(None, &mut shared, &mut tables.groups[g as usize]);
-                give_back_pieces(&mut tables.sharing, i, shared);
+                active.moved(None, &mut tables.sharing, i, &mut tables.groups[g as usize]);
             }
         },
         None => unreachable!(),

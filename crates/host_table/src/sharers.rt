@@ -74,7 +74,7 @@ fn is_sharer<M: Ialg>(
 {
     are_one(kind, instance.kind)
         && params.as_slice() == instance.params.as_slice()
-        && have_same(table, &instance.table, k)
+        && have_same(table, instance.table.table(), k)
 }
 
 /// Whether the instance of the number, if there is one, shares record `k`.

@@ -3,3 +3,4 @@ pub mod Laws
 pub mod Moves
 pub mod Rooms
 pub mod Keeping
+pub mod Turns

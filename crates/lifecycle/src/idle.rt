@@ -1,25 +1,23 @@
 //! Idle instances.
-ghost use Rattle.std.specs.Prelude.{◌≡◌, ◌≤◌, [], length, Some, IsSome, IsTrue};
+ghost use Rattle.std.specs.Prelude.{◌≡◌, ◌≤◌, [], length, Some, IsSome};
 ghost use Rattle.ialg.specs.Views.{control_of};
-ghost use Rattle.mem_rec.specs.Records.{is_table};
-ghost use Rattle.scratch_group.specs.Blocks.{SameGroup};
-ghost use Rattle.record_loans.specs.Pieces.{no_pieces, only_third, piece_at, IsSamePiece, SamePieces};
-ghost use Rattle.scratch_group.specs.Filters.{IsOfFilter};
-ghost use Rattle.scratch_group.specs.Sharing.{IsOfSharingFilter};
-ghost use Rattle.lifecycle.specs.Moves.{CanRestore, with_back, settled, HasRoom, without_piece, ComesBack};
-ghost use Rattle.lifecycle.specs.States.{FitsIn, SameInstance, SameOnce, SaysWhetherAccepted};
-ghost use Rattle.lifecycle.specs.Keeping.{Begins, StaysIdle, BecomesActive, BecomesActiveAndTakes, BecomesActiveAndGives, Ends};
+ghost use Rattle.record_loans.specs.Pieces.{piece_at};
+ghost use Rattle.host_shared.specs.Locations.{shared_at};
+ghost use Rattle.host_shared.specs.Owners.{OnlyItsPiecesChange};
+ghost use Rattle.lifecycle.specs.Moves.{CanRestore, without_piece};
+ghost use Rattle.lifecycle.specs.States.{SaysWhetherAccepted};
+ghost use Rattle.lifecycle.specs.Keeping.{Ends};
+ghost use Rattle.lifecycle.specs.Turns.{ActivatedSharing, ActivatedAndRanSharing, CanBegin, CanBeLent, CanBeLentAgain, CanBeRead, FreedSharing, IdleFollows, WasStarted};
 
 use crate::Active;
 use crate::instance::{Instance, restore};
+use crate::performing::{Place, perform, perform_at_rest, settle};
 use crate::steps::{Activate, ActivateAndProcess, Free, Init, Move};
+use host_shared::Locations;
 use ialg::{BLOCK_SAMPLES, Block, Ctl, Ialg, Params, copied};
 use mem_rec::MemTab;
-use record_loans::{FilterSizes, Pieces, SharingSizes};
-use scratch_group::{
-    Group, lend_lasting, lend_lasting_filter, lend_lasting_sharing, rebase, rebase_filter,
-    rebase_sharing,
-};
+use record_loans::Pieces;
+use scratch_group::{Group, LentTable};
 use space_raw::Piece;
 
 /// An idle instance. Its own pieces and those of its write-once records keep its history.
@@ -37,57 +35,69 @@ impl<M: Ialg> Idle<M> {
             instance: Instance {
                 kind,
                 params: copied(params.as_slice()),
-                table,
+                table: LentTable::of(table),
                 own,
             },
         }
     }
 
-    /// Starts the instance, in place: it goes by the places of its pieces and of its group's blocks from now on, and its write-once records may
-    /// be written this once.
-    ///
-    /// Inlined, so that of an instance without write-once records the compiler drops the empty `Pieces`.
-    #[inline(always)]
-    pub fn start(&mut self, shared: &mut Pieces, group: &Group)
-        requires fits { HasRoom self.old.instance shared.old group.now }
-        ensures same { SameInstance (settled self.old.instance shared.old group.now) self.new.instance }
-        ensures shared { SamePieces shared.old shared.new }
-        ensures fits { FitsIn self.new.instance shared.new group.now }
-        ensures keeps { Begins M.law self.old.instance shared.old self.new.instance shared.new }
+    /// Starts the instance of this number, in place: it goes by the places of its pieces and of its group's blocks from now on, and its
+    /// write-once records may be written this once.
+    pub fn start(&mut self, sharing: &mut Vec<Locations>, i: u8, group: &Group)
+        requires { CanBegin self.old.instance sharing.old.items i group.now }
+        ensures started { WasStarted M.law i self.old self.new sharing.old.items sharing.new.items group.now }
+        ensures lent { CanBeLent self.new.instance sharing.new.items i group.now }
     {
-        rebase(&mut self.instance.table, &self.instance.own, shared, group);
+        settle(
+            &mut self.instance.table,
+            &self.instance.own,
+            sharing,
+            i as usize,
+            group,
+        );
         let step = Init {
             kind: self.instance.kind,
             params: &self.instance.params,
         };
-        lend_lasting(
+        let place = Place {
+            number: i as usize,
+            table: &self.instance.table,
+        };
+        let writable = true;
+        perform_at_rest(
             &step,
-            &self.instance.table,
-            true,
+            &place,
+            writable,
             &mut self.instance.own,
-            shared,
+            sharing,
             &mut (),
         );
     }
 
-    /// Prepares the scratch records, which are lent to the instance from now on: [`into_active`](Idle::into_active) has to follow.
-    pub fn activate(&mut self, shared: &mut Pieces, group: &mut Group)
-        requires fits { FitsIn self.old.instance shared.old group.old }
-        ensures same { SameInstance self.old.instance self.new.instance }
-        ensures shared { SamePieces shared.old shared.new }
-        ensures once { SameOnce self.old.instance.table shared.old shared.new }
-        ensures group { SameGroup group.old group.new }
-        ensures fits { FitsIn self.new.instance shared.new group.new }
-        ensures keeps { BecomesActive M.law self.old.instance shared.old group.old self.new.instance shared.new group.new }
+    /// Prepares the scratch records, which are lent to the instance of this number from now on: it is the active member of its group, which had
+    /// none. [`into_active`](Idle::into_active) has to follow.
+    pub fn activate(&mut self, sharing: &mut Vec<Locations>, i: u8, group: &mut Group)
+        requires lent { CanBeLent self.old.instance sharing.old.items i group.old }
+        ensures seen { OnlyItsPiecesChange i sharing.old.items sharing.new.items }
+        ensures did { ActivatedSharing M.law i self.old self.new sharing.old.items sharing.new.items group.old group.new }
+        ensures lent { CanBeLent self.new.instance sharing.new.items i group.new }
     {
-        let kind = self.instance.kind;
-        group.lend(
-            &Activate { kind },
-            &self.instance.table,
+        let step = Activate {
+            kind: self.instance.kind,
+        };
+        let place = Place {
+            number: i as usize,
+            table: &self.instance.table,
+        };
+        perform(
+            &step,
+            &place,
             &mut self.instance.own,
-            shared,
+            sharing,
+            group,
             &mut (),
         );
+        group.set_active(Some(i));
     }
 
     /// Prepares the scratch records, as [`activate`](Idle::activate) does, gives the instance a block of samples, and puts what they
@@ -95,32 +105,30 @@ impl<M: Ialg> Idle<M> {
     #[inline(always)]
     pub fn activate_and_run(
         &mut self,
-        shared: &mut Pieces,
+        sharing: &mut Vec<Locations>,
+        i: u8,
         group: &mut Group,
         input: &[i16],
         out: &mut Block,
     )
-        requires fits { FitsIn self.old.instance shared.old group.old }
+        requires lent { CanBeLent self.old.instance sharing.old.items i group.old }
         requires empty { out.old.items ≡ [] }
         requires some { 1 ≤ length input.now }
         requires within { length input.now ≤ BLOCK_SAMPLES }
-        ensures same { SameInstance self.old.instance self.new.instance }
-        ensures shared { SamePieces shared.old shared.new }
-        ensures once { SameOnce self.old.instance.table shared.old shared.new }
-        ensures group { SameGroup group.old group.new }
-        ensures fits { FitsIn self.new.instance shared.new group.new }
-        ensures bounded { length out.new.items ≤ length input.now }
-        ensures keeps { BecomesActiveAndTakes M.law self.old.instance shared.old group.old input.now self.new.instance shared.new group.new }
-        ensures output { BecomesActiveAndGives M.law self.old.instance shared.old group.old input.now out.new.items }
+        ensures seen { OnlyItsPiecesChange i sharing.old.items sharing.new.items }
+        ensures did { ActivatedAndRanSharing M.law i input.now out.new.items self.old self.new sharing.old.items sharing.new.items group.old group.new }
+        ensures lent { CanBeLent self.new.instance sharing.new.items i group.new }
     {
-        let kind = self.instance.kind;
-        group.lend(
-            &ActivateAndProcess { kind, input },
-            &self.instance.table,
-            &mut self.instance.own,
-            shared,
-            out,
-        );
+        let step = ActivateAndProcess {
+            kind: self.instance.kind,
+            input,
+        };
+        let place = Place {
+            number: i as usize,
+            table: &self.instance.table,
+        };
+        perform(&step, &place, &mut self.instance.own, sharing, group, out);
+        group.set_active(Some(i));
     }
 
     /// The instance as an active one, once it is [activated](Idle::activate).
@@ -131,21 +139,6 @@ impl<M: Ialg> Idle<M> {
         Active { instance }
     }
 
-    /// Activates the instance: its scratch records are lent to it from now on.
-    pub fn activated(self, shared: &mut Pieces, group: &mut Group) -> Active<M>
-        requires fits { FitsIn self.instance shared.old group.old }
-        ensures same { SameInstance self.instance result.instance }
-        ensures shared { SamePieces shared.old shared.new }
-        ensures once { SameOnce self.instance.table shared.old shared.new }
-        ensures group { SameGroup group.old group.new }
-        ensures fits { FitsIn result.instance shared.new group.new }
-        ensures keeps { BecomesActive M.law self.instance shared.old group.old result.instance shared.new group.new }
-    {
-        let mut idle = self;
-        idle.activate(shared, group);
-        idle.into_active()
-    }
-
     /// Whether the instance takes the control.
     pub fn accepts(&self, c: &Ctl) -> bool
         ensures { SaysWhetherAccepted M.law.meaning self.now.instance (control_of c.now) result }
@@ -153,27 +146,29 @@ impl<M: Ialg> Idle<M> {
         self.instance.kind.accepts(&self.instance.params, c)
     }
 
-    /// The records that the instance holds, as its kind answers.
-    ///
-    /// Inlined, so that of an instance without write-once records the compiler drops the empty `Pieces`.
-    #[inline(always)]
-    pub fn freed(&mut self, shared: &mut Pieces, group: &Group) -> MemTab
-        requires fits { FitsIn self.old.instance shared.old group.now }
-        ensures same { SameInstance self.old.instance self.new.instance }
-        ensures shared { SamePieces shared.old shared.new }
-        ensures once { SameOnce self.old.instance.table shared.old shared.new }
-        ensures fits { FitsIn self.new.instance shared.new group.now }
-        ensures keeps { StaysIdle M.law self.old.instance shared.old self.new.instance shared.new }
-        ensures table { Ends M.law self.old.instance shared.old result }
+    /// The records that the instance of this number holds, as its kind answers.
+    pub fn freed(&mut self, sharing: &mut Vec<Locations>, i: u8) -> MemTab
+        requires lent { CanBeRead self.old.instance sharing.old.items i }
+        ensures seen { OnlyItsPiecesChange i sharing.old.items sharing.new.items }
+        ensures did { FreedSharing i self.old self.new sharing.old.items sharing.new.items }
+        ensures lent { CanBeRead self.new.instance sharing.new.items i }
+        ensures table { Ends M.law self.old.instance (shared_at sharing.old.items i) result }
     {
-        let kind = self.instance.kind;
-        let mut told = self.instance.table.copied();
-        lend_lasting(
-            &Free { kind },
-            &self.instance.table,
-            false,
+        let step = Free {
+            kind: self.instance.kind,
+        };
+        let place = Place {
+            number: i as usize,
+            table: &self.instance.table,
+        };
+        let mut told = self.instance.table.table().copied();
+        let writable = false;
+        perform_at_rest(
+            &step,
+            &place,
+            writable,
             &mut self.instance.own,
-            shared,
+            sharing,
             &mut told,
         );
         told
@@ -203,82 +198,41 @@ impl<M: Ialg> Idle<M> {
     }
 
     /// Goes by the places as they are now, with the piece that was taken out, if one was.
-    ///
-    /// Inlined, so that of an instance without write-once records the compiler drops the empty `Pieces`.
-    #[inline(always)]
-    pub fn moved(&mut self, back: Option<(usize, Piece)>, shared: &mut Pieces, group: &Group)
-        requires back { CanRestore back self.old.instance.own }
-        requires fits { HasRoom (with_back self.old.instance back) shared.old group.now }
-        ensures same { ComesBack self.old.instance back shared.old group.now self.new.instance }
-        ensures shared { SamePieces shared.old shared.new }
-        ensures once { SameOnce self.new.instance.table shared.old shared.new }
-        ensures fits { FitsIn self.new.instance shared.new group.now }
-        ensures keeps { StaysIdle M.law (with_back self.old.instance back) shared.old self.new.instance shared.new }
-    {
-        restore(&mut self.instance.own, back);
-        rebase(&mut self.instance.table, &self.instance.own, shared, group);
-        let kind = self.instance.kind;
-        lend_lasting(
-            &Move { kind },
-            &self.instance.table,
-            false,
-            &mut self.instance.own,
-            shared,
-            &mut (),
-        );
-    }
-
-    /// Goes by the places as they are now, as [`moved`](Idle::moved) does, of a filter: no piece is lent to it.
-    #[inline(always)]
-    pub fn moved_filter(&mut self, sizes: FilterSizes, back: Option<(usize, Piece)>, group: &Group)
-        requires table { IsTrue (is_table self.old.instance.table) }
-        requires filter { IsOfFilter self.old.instance.table sizes }
-        requires back { CanRestore back self.old.instance.own }
-        requires fits { HasRoom (with_back self.old.instance back) no_pieces group.now }
-        ensures same { ComesBack self.old.instance back no_pieces group.now self.new.instance }
-        ensures fits { FitsIn self.new.instance no_pieces group.now }
-        ensures keeps { StaysIdle M.law (with_back self.old.instance back) no_pieces self.new.instance no_pieces }
-    {
-        let instance = &mut self.instance;
-        let kind = instance.kind;
-        restore(&mut instance.own, back);
-        rebase_filter(&mut instance.table, &instance.own, group);
-        let moving = Move { kind };
-        lend_lasting_filter(&moving, &instance.table, sizes, &mut instance.own, &mut ());
-    }
-
-    /// Goes by the places as they are now, as [`moved`](Idle::moved) does, of a filter that shares its constants: the one piece that it is
-    /// lent stays where it stands.
-    #[inline(always)]
-    pub fn moved_sharing(
+    pub fn moved(
         &mut self,
-        sizes: SharingSizes,
         back: Option<(usize, Piece)>,
-        once: &mut Option<Piece>,
+        sharing: &mut Vec<Locations>,
+        i: usize,
         group: &Group,
     )
-        requires table { IsTrue (is_table self.old.instance.table) }
-        requires sharing { IsOfSharingFilter self.old.instance.table sizes }
         requires back { CanRestore back self.old.instance.own }
-        requires fits { HasRoom (with_back self.old.instance back) (only_third once.old) group.now }
-        ensures same { ComesBack self.old.instance back (only_third once.old) group.now self.new.instance }
-        ensures shared { IsSamePiece once.old once.new }
-        ensures once { SameOnce self.new.instance.table (only_third once.old) (only_third once.new) }
-        ensures fits { FitsIn self.new.instance (only_third once.new) group.now }
-        ensures keeps { StaysIdle M.law (with_back self.old.instance back) (only_third once.old) self.new.instance (only_third once.new) }
+        requires lent { CanBeLentAgain self.old.instance back sharing.old.items i group.now }
+        ensures seen { OnlyItsPiecesChange i sharing.old.items sharing.new.items }
+        ensures did { IdleFollows M.law back i self.old sharing.old.items self.new sharing.new.items group.now }
+        ensures lent { CanBeLent self.new.instance sharing.new.items i group.now }
     {
-        let instance = &mut self.instance;
-        restore(&mut instance.own, back);
-        rebase_sharing(&mut instance.table, &instance.own, once, group);
+        restore(&mut self.instance.own, back);
+        settle(
+            &mut self.instance.table,
+            &self.instance.own,
+            sharing,
+            i,
+            group,
+        );
         let step = Move {
-            kind: instance.kind,
+            kind: self.instance.kind,
         };
-        lend_lasting_sharing(
+        let place = Place {
+            number: i,
+            table: &self.instance.table,
+        };
+        let writable = false;
+        perform_at_rest(
             &step,
-            &instance.table,
-            sizes,
-            &mut instance.own,
-            once,
+            &place,
+            writable,
+            &mut self.instance.own,
+            sharing,
             &mut (),
         );
     }

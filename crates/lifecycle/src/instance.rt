@@ -4,17 +4,18 @@ ghost use Rattle.lifecycle.specs.Moves.{restored, CanRestore};
 
 use crate::{Active, Idle};
 use ialg::Params;
-use mem_rec::MemTab;
 use record_loans::Pieces;
+use scratch_group::LentTable;
 use space_raw::Piece;
 
-/// An instance: its kind, its table with bases, the pieces of its persistent records, and its parameters.
+/// An instance: its kind, its table with bases and with the way in which its records are lent, the pieces of its persistent records, and its
+/// parameters.
 ///
 /// What a block of samples takes stands side by side, so that the caches of a small processor hold it for many instances. The parameters, which
 /// none of that needs, stand behind it.
 pub struct Instance<M> {
     pub kind: M,
-    pub table: MemTab,
+    pub table: LentTable,
     pub own: Pieces,
     pub params: Params,
 }

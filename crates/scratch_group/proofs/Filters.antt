@@ -1,15 +1,11 @@
 -- What is lent to a filter is each record's words.
-use Rattle.std.proofs.Common.{◌≡◌, ◌==◌, ◌&&◌, ◌+◌, ◌<◌, ◌≤◌, ℕ, ℤ, zero, suc, true, IsTrue, List, [], ◌∷◌, length, take, refl, ap, sym, ◌∙◌, arith, length-take}
+use Rattle.std.proofs.Common.{◌≡◌, ◌+◌, ◌<◌, ◌≤◌, ℕ, ℤ, zero, suc, IsTrue, List, [], ◌∷◌, length, take, refl, ap, sym, ◌∙◌, arith, length-take}
 use Rattle.std.proofs.lemmas.Grind.{common_steps}
 use Rattle.std.specs.Int.{next_multiple_of}
-use Rattle.std.proofs.lemmas.Bool.{and_parts, eqb-true}
-use Rattle.std.specs.List.{list_all}
 use Rattle.mem_rec.specs.declared.MemRec.{MemRec}
 use Rattle.mem_rec.specs.declared.Space.TheVariants.{Daram}
-use Rattle.mem_rec.specs.declared.Attr.{Attr}
-use Rattle.mem_rec.specs.declared.Attr.TheVariants.{Scratch, Persist, WriteOnce}
-use Rattle.mem_rec.specs.Records.{is_table, is_record, first_is_persistent, is_persistent, is_scratch, same_space}
-use Rattle.ialg.specs.declared.TheConstants.{FILTER_RECORDS}
+use Rattle.mem_rec.specs.declared.Attr.TheVariants.{WriteOnce}
+use Rattle.mem_rec.specs.Records.{is_table}
 use Rattle.ialg.specs.Records.{record_at}
 use Rattle.record_loans.specs.declared.plan.FilterSizes.{FilterSizes}
 use Rattle.record_loans.specs.Cuts.{filter_words}
@@ -18,7 +14,7 @@ use Rattle.record_loans.specs.Pieces.{piece_words, piece_place}
 use Rattle.record_loans.specs.Blocks.{block_piece, block_words}
 use Rattle.record_loans.specs.Loans.{FilterFits}
 use Rattle.scratch_group.specs.declared.group.Group.{Group}
-use Rattle.scratch_group.specs.Words.{HasPieces, is_filter, scratch_end, scratch_offset, record_words, active_words, idle_record_words, idle_words}
+use Rattle.scratch_group.specs.Words.{HasPieces, scratch_end, scratch_offset, record_words, active_words, idle_record_words, idle_words}
 use Rattle.scratch_group.specs.Words.{record_place, with_bases, HasWords}
 use Rattle.scratch_group.specs.Filters.{filter_sizes_in, IsOfFilter}
 use Rattle.scratch_group.proofs.Ends.{next_end, scratch_end-suc, blank_at, persistent_once, scratch_once, blank_once}
@@ -158,39 +154,3 @@ none_once_of rs n t f zero attr = persistent_once (sym (object_attr rs t) ∙ at
 none_once_of rs n t f (suc zero) attr = persistent_once (sym f.persistent ∙ attr)
 none_once_of rs n t f (suc (suc zero)) attr = scratch_once (sym f.scratch ∙ attr)
 none_once_of rs n t f (suc (suc (suc k))) attr = blank_once rs (suc (suc (suc k))) (let e = f.three in omega (arith, e)) attr
-
-persistent_is : (a : Attr) → is_persistent a ≡ true → a ≡ WriteOnce → ⊥
-persistent_is Scratch p e = cc
-persistent_is Persist p e = cc
-persistent_is WriteOnce p e = cc
-
-scratch_is : (a : Attr) → is_scratch a ≡ true → a ≡ WriteOnce → ⊥
-scratch_is Scratch p e = cc
-scratch_is Persist p e = cc
-scratch_is WriteOnce p e = cc
-
-first_of : (rs : List MemRec) → first_is_persistent rs ≡ true → is_persistent (record_at rs 0).attr ≡ true
-first_of [] p = cc
-first_of (r ∷ rs) p = p
-
-past_three : (rs : List MemRec) (k : ℕ) → length rs ≡ 3 → (record_at rs (suc (suc (suc k)))).attr ≡ WriteOnce → ⊥
-past_three [] k three e = absurd (omega (arith, three))
-past_three (a ∷ []) k three e = absurd (omega (arith, three))
-past_three (a ∷ b ∷ []) k three e = absurd (omega (arith, three))
-past_three (a ∷ b ∷ c ∷ []) k three e = cc
-past_three (a ∷ b ∷ c ∷ d ∷ rs) k three e = absurd (omega (arith, three))
-
-begins : (rs : List MemRec) → is_filter rs ≡ true → (((length rs == FILTER_RECORDS) && is_persistent (record_at rs 1).attr) ≡ true) × (is_scratch (record_at rs 2).attr ≡ true)
-begins rs filter = and_parts _ (is_scratch (record_at rs 2).attr) (and_parts _ (same_space (record_at rs 2).space Daram) filter).0
-
-none_at : (rs : List MemRec) (k : ℕ) → first_is_persistent rs ≡ true → (length rs == FILTER_RECORDS) ≡ true → is_persistent (record_at rs 1).attr ≡ true → is_scratch (record_at rs 2).attr ≡ true
-    → (record_at rs k).attr ≡ WriteOnce → ⊥
-none_at rs zero first three second third attr = persistent_is (record_at rs 0).attr (first_of rs first) attr
-none_at rs (suc zero) first three second third attr = persistent_is (record_at rs 1).attr second attr
-none_at rs (suc (suc zero)) first three second third attr = scratch_is (record_at rs 2).attr third attr
-none_at rs (suc (suc (suc k))) first three second third attr = past_three rs k (eqb-true (length rs) FILTER_RECORDS three) attr
-
--- no record of a filter is write-once
-pub none_once : (rs : List MemRec) → IsTrue (is_table rs) → is_filter rs ≡ true → (k : ℕ) → (record_at rs k).attr ≡ WriteOnce → ⊥
-none_once rs table filter k attr = none_at rs k (and_parts (first_is_persistent rs) _ (and_parts _ (list_all is_record rs) table).0).0
-    (and_parts (length rs == FILTER_RECORDS) _ (begins rs filter).0).0 (and_parts _ (is_persistent (record_at rs 1).attr) (begins rs filter).0).1 (begins rs filter).1 attr

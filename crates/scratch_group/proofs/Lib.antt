@@ -7,3 +7,4 @@ pub mod Filters
 pub mod Readers
 pub mod Sharing
 pub mod NoBlocks
+pub mod LoansStay

@@ -3,5 +3,5 @@ pub mod Words
 pub mod Plans
 pub mod Filters
 pub mod Readers
-pub mod ShortLoans
+pub mod Loans
 pub mod Sharing

@@ -1,9 +1,10 @@
 -- Tables of filters that share their constants.
-use Rattle.std.specs.Prelude.{ℤ, ◌≡◌, ◌≤◌, List, [], ◌∷◌, length, take, Option}
+use Rattle.std.specs.Prelude.{ℤ, ◌≡◌, ◌≤◌, List, [], ◌∷◌, length, take, Option, IsTrue}
 use Rattle.space_raw.specs.Span.{Span}
 use Rattle.mem_rec.specs.declared.MemRec.{MemRec}
 use Rattle.mem_rec.specs.declared.Space.TheVariants.{Daram}
 use Rattle.mem_rec.specs.declared.Attr.TheVariants.{Scratch, Persist, WriteOnce}
+use Rattle.mem_rec.specs.Records.{is_table}
 use Rattle.ialg.specs.Records.{record_at}
 use Rattle.record_loans.specs.declared.plan.SharingSizes.{SharingSizes}
 use Rattle.record_loans.specs.declared.pieces.Pieces.{Pieces}
@@ -23,6 +24,11 @@ pub record IsOfSharingFilter (rs : List MemRec) (n : SharingSizes) : Type 0 wher
   pub scratch : (record_at rs 3).attr ≡ Scratch
   pub space : (record_at rs 3).space ≡ Daram
   pub running : (record_at rs 3).size ≡ n.running
+
+-- the table of such a filter, whose records have these sizes
+pub record IsSharingFilter (rs : List MemRec) (n : SharingSizes) : Type 0 where
+  pub table : IsTrue (is_table rs)
+  pub sizes : IsOfSharingFilter rs n
 
 -- the table of no such filter
 abbrev pub IsOfNoSharingFilter : List MemRec → Type 0

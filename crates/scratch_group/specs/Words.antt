@@ -1,24 +1,17 @@
 -- Where the records of an instance lie, and the words that are lent.
-use Rattle.std.specs.Prelude.{ℕ, suc, ℤ, ◌+◌, ◌≡◌, Bool, ◌&&◌, ◌==◌, List, [], ◌∷◌, length, take, drop, slice_index_or}
+use Rattle.std.specs.Prelude.{ℕ, suc, ℤ, ◌+◌, ◌≡◌, Bool, List, [], ◌∷◌, length, take, drop, slice_index_or}
 use Rattle.std.specs.Int.{next_multiple_of}
 use Rattle.mem_rec.specs.declared.MemRec.{MemRec}
 use Rattle.mem_rec.specs.declared.Space.{Space}
-use Rattle.mem_rec.specs.declared.Space.TheVariants.{Daram}
 use Rattle.mem_rec.specs.declared.Attr.{Attr}
 use Rattle.mem_rec.specs.declared.Attr.TheVariants.{Scratch, Persist, WriteOnce}
-use Rattle.mem_rec.specs.Records.{same_space, is_scratch, is_persistent}
 use Rattle.mem_rec.specs.Layout.{scratch_records, end_from, scratch_offsets}
-use Rattle.ialg.specs.declared.TheConstants.{FILTER_RECORDS}
 use Rattle.ialg.specs.Records.{record_at, words_of, idle_size}
 use Rattle.scratch_group.specs.declared.group.Group.{Group}
 use Rattle.record_loans.specs.declared.pieces.Pieces.{Pieces}
 use Rattle.record_loans.specs.Blocks.{block_words, block_piece}
 use Rattle.scratch_group.specs.Blocks.{block_in}
 use Rattle.record_loans.specs.Pieces.{piece_at, piece_words, piece_place, IsInSpace}
-
--- the table of a filter: behind the object one persistent record, and one scratch record in daram
-abbrev pub is_filter : List MemRec → Bool
-is_filter rs = (length rs == FILTER_RECORDS) && is_persistent (record_at rs 1).attr && is_scratch (record_at rs 2).attr && same_space (record_at rs 2).space Daram
 
 -- where the scratch records of a space end, of the first k records
 abbrev pub scratch_end : List MemRec → ℕ → Space → ℕ

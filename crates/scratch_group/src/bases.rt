@@ -17,7 +17,7 @@ use space_raw::Piece;
 ///
 /// Inlined, so that where the table is known to be a filter's the compiler drops what others need.
 #[inline(always)]
-pub fn rebase(table: &mut MemTab, own: &Pieces, shared: &Pieces, group: &Group)
+pub(crate) fn rebase(table: &mut MemTab, own: &Pieces, shared: &Pieces, group: &Group)
     requires sizes { HasWords table.old own.now shared.now group.now }
     requires spaces { InSpaces own.now shared.now group.now }
     ensures { table.new ≡ placed table.old own.now shared.now group.now }
@@ -37,7 +37,7 @@ pub fn rebase(table: &mut MemTab, own: &Pieces, shared: &Pieces, group: &Group)
 /// The base of each record is its place from now on, as [`rebase`] has it, of a filter: the one scratch record begins where the block in
 /// `daram` does, and no piece is shared.
 #[inline(always)]
-pub fn rebase_filter(table: &mut MemTab, own: &Pieces, group: &Group)
+pub(crate) fn rebase_filter(table: &mut MemTab, own: &Pieces, group: &Group)
     requires table { IsTrue (is_table table.old) }
     requires filter { IsOfFilter table.old (filter_sizes_in table.old) }
     requires sizes { HasWords table.old own.now no_pieces group.now }
@@ -55,7 +55,7 @@ pub fn rebase_filter(table: &mut MemTab, own: &Pieces, group: &Group)
 /// The base of each record is its place from now on, as [`rebase`] has it, of a filter that shares its constants: the one scratch record
 /// begins where the block in `daram` does, and the constants where the one piece does that is lent.
 #[inline(always)]
-pub fn rebase_sharing(table: &mut MemTab, own: &Pieces, once: &Option<Piece>, group: &Group)
+pub(crate) fn rebase_sharing(table: &mut MemTab, own: &Pieces, once: &Option<Piece>, group: &Group)
     requires table { IsTrue (is_table table.old) }
     requires sharing { IsOfSharingFilter table.old (sharing_sizes_in table.old) }
     requires sizes { HasWords table.old own.now (only_third once.now) group.now }

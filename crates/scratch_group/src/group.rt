@@ -3,18 +3,19 @@ ghost use Rattle.std.specs.Prelude.{◌≡◌, ◌<◌, ◌+◌, length, Option,
 ghost use Rattle.record_loans.specs.Blocks.{block_piece, block_words};
 ghost use Rattle.scratch_group.specs.Blocks.{block_in, block_spot, block_to_place, filled, BlocksArePoison, SameBut, SameGroup};
 ghost use Rattle.host_map.specs.Activity.{count_after};
-ghost use Rattle.record_loans.specs.Pieces.{no_pieces, only_second, piece_place, IsInSpace, IsSamePiece, SamePieces};
+ghost use Rattle.record_loans.specs.Pieces.{no_pieces, only_second, only_third, piece_place, IsInSpace, IsSamePiece, SamePieces};
 ghost use Rattle.scratch_group.specs.Words.{DoneActive, HasWords};
 ghost use Rattle.scratch_group.specs.Filters.{IsFilter};
 ghost use Rattle.scratch_group.specs.Readers.{IsReader};
+ghost use Rattle.scratch_group.specs.Sharing.{IsSharingFilter};
 
-use crate::plan::{active_plan, filter_sizes, reader_sizes, sharing_sizes};
+use crate::plan::active_plan;
 use host_map::Stat;
 use ialg::{Lending, Step};
 use mem_rec::{Layout, MemTab, Space, scratch_layout};
 use record_loans::{
-    FilterSizes, Pieces, PlannedLoan, ReaderSizes, ScratchBlock, lend_filter, lend_reader,
-    lend_sharing_filter, lend_with_blocks,
+    FilterSizes, Pieces, PlannedLoan, ReaderSizes, ScratchBlock, SharingSizes, lend_filter,
+    lend_reader, lend_sharing_filter, lend_with_blocks,
 };
 use space_raw::{Piece, end_none};
 
@@ -185,7 +186,6 @@ impl Group {
 
     /// Performs the step with the records of an active instance: its persistent records in its own pieces, its write-once records
     /// in those that are lent to it, for reading alone, and its scratch records at the layout's offsets of the blocks.
-    #[inline(always)]
     pub fn lend<O, S: Step<O>>(
         &mut self,
         step: &S,
@@ -201,28 +201,26 @@ impl Group {
         ensures shared { SamePieces shared.old shared.new }
         ensures group { SameGroup self.old self.new }
     {
+        // write-once records are for reading alone
         let loan = Lending {
             step,
             table,
             writable: false,
         };
-        match filter_sizes(table) {
-            Some(sizes) => lend_filter(&loan, sizes, own, &mut self.daram, out),
-            None => match reader_sizes(table) {
-                Some(sizes) => lend_reader(&loan, sizes, own, &mut shared.p1, out),
-                None => match sharing_sizes(table) {
-                    Some(sizes) => lend_sharing_filter(
-                        &loan,
-                        sizes,
-                        own,
-                        &mut shared.p2,
-                        &mut self.daram,
-                        out,
-                    ),
-                    None => self.lend_by_plan(&loan, own, shared, out),
-                },
-            },
-        }
+        let plan = active_plan(table);
+        let planned = PlannedLoan {
+            lending: &loan,
+            plan: &plan,
+        };
+        lend_with_blocks(
+            &planned,
+            own,
+            shared,
+            &mut self.daram,
+            &mut self.saram,
+            &mut self.external,
+            out,
+        );
     }
 
     /// Performs the step with the records of a filter, as [`lend`](Group::lend) does, out of its own pieces and the block in `daram`. No other
@@ -243,6 +241,7 @@ impl Group {
         ensures own { SamePieces own.old own.new }
         ensures group { SameGroup self.old self.new }
     {
+        // write-once records are for reading alone
         let loan = Lending {
             step,
             table,
@@ -271,45 +270,41 @@ impl Group {
         ensures once { IsSamePiece once.old once.new }
     {
         // write-once records are for reading alone
-        let writable = false;
         let loan = Lending {
             step,
             table,
-            writable,
+            writable: false,
         };
         lend_reader(&loan, sizes, own, once, out);
     }
 
-    /// Performs the step as [`lend`](Group::lend) does, whatever the table.
-    fn lend_by_plan<O, S: Step<O>>(
+    /// Performs the step with the records of a filter that shares its constants, as [`lend`](Group::lend) does, out of its own pieces, the one
+    /// that is lent to it and the block in `daram`. No other block is looked at, and no plan made.
+    #[inline(always)]
+    pub fn lend_sharing<O, S: Step<O>>(
         &mut self,
-        loan: &Lending<'_, S>,
+        step: &S,
+        table: &MemTab,
+        sizes: SharingSizes,
         own: &mut Pieces,
-        shared: &mut Pieces,
+        once: &mut Option<Piece>,
         out: &mut O,
     )
-        requires can { S.can loan.now.step.now out.old }
-        requires sizes { HasWords loan.now.table.now own.old shared.old self.old }
-        ensures done { DoneActive (S.done loan.now.step.now) loan.now.table.now loan.now.writable
-            own.old shared.old self.old own.new shared.new self.new out.old out.new }
+        requires can { S.can step.now out.old }
+        requires sharing { IsSharingFilter table.now sizes }
+        requires sizes { HasWords table.now own.old (only_third once.old) self.old }
+        ensures done { DoneActive (S.done step.now) table.now false own.old (only_third once.old) self.old own.new (only_third once.new) self.new out.old out.new }
         ensures own { SamePieces own.old own.new }
-        ensures shared { SamePieces shared.old shared.new }
+        ensures once { IsSamePiece once.old once.new }
         ensures group { SameGroup self.old self.new }
     {
-        let plan = active_plan(loan.table);
-        let planned = PlannedLoan {
-            lending: loan,
-            plan: &plan,
+        // write-once records are for reading alone
+        let loan = Lending {
+            step,
+            table,
+            writable: false,
         };
-        lend_with_blocks(
-            &planned,
-            own,
-            shared,
-            &mut self.daram,
-            &mut self.saram,
-            &mut self.external,
-            out,
-        );
+        lend_sharing_filter(&loan, sizes, own, once, &mut self.daram, out);
     }
 
     /// Ends a group whose blocks were all taken out. It answers nothing and leaves nothing behind, so that there is no more to say: a

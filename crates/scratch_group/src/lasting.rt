@@ -1,114 +1,22 @@
 //! The records that last are lent to idle instances.
-ghost use Rattle.std.specs.Prelude.{◌≡◌, ◌≤◌, length, false, IsTrue};
-ghost use Rattle.mem_rec.specs.Records.{is_table};
-ghost use Rattle.record_loans.specs.Pieces.{no_pieces, only_third, piece_words, IsSamePiece, SamePieces};
-ghost use Rattle.scratch_group.specs.Filters.{idle_filter_words, IsOfFilter};
-ghost use Rattle.scratch_group.specs.Sharing.{idle_sharing_words, IsOfSharingFilter};
+ghost use Rattle.std.specs.Prelude.{◌≤◌, length};
+ghost use Rattle.record_loans.specs.Pieces.{no_pieces, only_second, only_third, piece_words, IsSamePiece, SamePieces};
+ghost use Rattle.scratch_group.specs.Filters.{idle_filter_words, IsFilter};
+ghost use Rattle.scratch_group.specs.Readers.{IsReader};
+ghost use Rattle.scratch_group.specs.Sharing.{idle_sharing_words, IsSharingFilter};
 ghost use Rattle.scratch_group.specs.Words.{DoneIdle, HasPieces};
 ghost use Rattle.record_loans.specs.Performed.{Performed};
 
-use crate::plan::{filter_sizes, idle_plan, reader_sizes, sharing_sizes};
+use crate::plan::idle_plan;
 use ialg::{Lending, Step, lend};
-use mem_rec::MemTab;
 use record_loans::{
-    FilterSizes, Pieces, PlannedLoan, SharingSizes, lend_reader, lend_without_blocks,
+    FilterSizes, Pieces, PlannedLoan, ReaderSizes, SharingSizes, lend_reader, lend_without_blocks,
 };
 use space_raw::Piece;
 
 /// Performs the step with the records of an idle instance: its persistent records in its own pieces, and its write-once records in
-/// those that are lent to it. Write-once records may be written where `writable` says so.
-#[inline(always)]
+/// those that are lent to it. These may be written where the loan says that they are writable.
 pub fn lend_lasting<O, S: Step<O>>(
-    step: &S,
-    table: &MemTab,
-    writable: bool,
-    own: &mut Pieces,
-    shared: &mut Pieces,
-    out: &mut O,
-)
-    requires can { S.can step.now out.old }
-    requires sizes { HasPieces table.now own.old shared.old }
-    ensures done { DoneIdle (S.done step.now) table.now writable own.old shared.old own.new shared.new out.old out.new }
-    ensures own { SamePieces own.old own.new }
-    ensures shared { SamePieces shared.old shared.new }
-{
-    let lending = Lending {
-        step,
-        table,
-        writable,
-    };
-    match filter_sizes(table) {
-        Some(sizes) => lend_filter_at_rest(&lending, sizes, own, out),
-        None => match reader_sizes(table) {
-            Some(sizes) => lend_reader(&lending, sizes, own, &mut shared.p1, out),
-            None => match sharing_sizes(table) {
-                Some(sizes) => {
-                    lend_sharing_filter_at_rest(&lending, sizes, own, &mut shared.p2, out)
-                }
-                None => lend_lasting_by_plan(&lending, own, shared, out),
-            },
-        },
-    }
-}
-
-/// Performs the step with the records of an idle filter, as [`lend_lasting`] does, out of its own pieces alone.
-#[inline(always)]
-pub fn lend_lasting_filter<O, S: Step<O>>(
-    step: &S,
-    table: &MemTab,
-    sizes: FilterSizes,
-    own: &mut Pieces,
-    out: &mut O,
-)
-    requires can { S.can step.now out.old }
-    requires table { IsTrue (is_table table.now) }
-    requires filter { IsOfFilter table.now sizes }
-    requires sizes { HasPieces table.now own.old no_pieces }
-    ensures done { DoneIdle (S.done step.now) table.now false own.old no_pieces own.new no_pieces out.old out.new }
-    ensures own { SamePieces own.old own.new }
-{
-    // a filter has no write-once record
-    let lending = Lending {
-        step,
-        table,
-        writable: false,
-    };
-    lend_filter_at_rest(&lending, sizes, own, out);
-}
-
-/// Performs the step with the records of an idle filter that shares its constants, as [`lend_lasting`] does, out of its own pieces and the
-/// one that is lent to it: for reading alone, and where it stands.
-#[inline(always)]
-pub fn lend_lasting_sharing<O, S: Step<O>>(
-    step: &S,
-    table: &MemTab,
-    sizes: SharingSizes,
-    own: &mut Pieces,
-    once: &mut Option<Piece>,
-    out: &mut O,
-)
-    requires can { S.can step.now out.old }
-    requires table { IsTrue (is_table table.now) }
-    requires sharing { IsOfSharingFilter table.now sizes }
-    requires sizes { HasPieces table.now own.old (only_third once.old) }
-    ensures done { DoneIdle (S.done step.now) table.now false
-        own.old (only_third once.old) own.new (only_third once.new) out.old out.new }
-    ensures own { SamePieces own.old own.new }
-    ensures once { IsSamePiece once.old once.new }
-{
-    // write-once records are for reading alone
-    let writable = false;
-    let lending = Lending {
-        step,
-        table,
-        writable,
-    };
-    lend_sharing_filter_at_rest(&lending, sizes, own, once, out);
-}
-
-/// Performs the step as [`lend_lasting`] does, whatever the table.
-#[inline(never)]
-fn lend_lasting_by_plan<O, S: Step<O>>(
     loan: &Lending<'_, S>,
     own: &mut Pieces,
     shared: &mut Pieces,
@@ -127,6 +35,66 @@ fn lend_lasting_by_plan<O, S: Step<O>>(
         plan: &plan,
     };
     lend_without_blocks(&planned, own, shared, out);
+}
+
+/// Performs the step with the records of an idle filter, as [`lend_lasting`] does, out of its own pieces alone.
+#[inline(always)]
+pub fn lend_lasting_filter<O, S: Step<O>>(
+    loan: &Lending<'_, S>,
+    sizes: FilterSizes,
+    own: &mut Pieces,
+    out: &mut O,
+)
+    requires can { S.can loan.now.step.now out.old }
+    requires filter { IsFilter loan.now.table.now sizes }
+    requires sizes { HasPieces loan.now.table.now own.old no_pieces }
+    ensures done { DoneIdle (S.done loan.now.step.now) loan.now.table.now loan.now.writable
+        own.old no_pieces own.new no_pieces out.old out.new }
+    ensures own { SamePieces own.old own.new }
+{
+    lend_filter_at_rest(loan, sizes, own, out);
+}
+
+/// Performs the step with the records of an idle reader, as [`lend_lasting`] does, out of its own piece and the one that may be lent to it,
+/// where it stands.
+#[inline(always)]
+pub fn lend_lasting_reader<O, S: Step<O>>(
+    loan: &Lending<'_, S>,
+    sizes: ReaderSizes,
+    own: &mut Pieces,
+    once: &mut Option<Piece>,
+    out: &mut O,
+)
+    requires can { S.can loan.now.step.now out.old }
+    requires reader { IsReader loan.now.table.now sizes }
+    requires sizes { HasPieces loan.now.table.now own.old (only_second once.old) }
+    ensures done { DoneIdle (S.done loan.now.step.now) loan.now.table.now loan.now.writable
+        own.old (only_second once.old) own.new (only_second once.new) out.old out.new }
+    ensures own { SamePieces own.old own.new }
+    ensures once { IsSamePiece once.old once.new }
+{
+    lend_reader(loan, sizes, own, once, out);
+}
+
+/// Performs the step with the records of an idle filter that shares its constants, as [`lend_lasting`] does, out of its own pieces and the
+/// one that is lent to it, where it stands.
+#[inline(always)]
+pub fn lend_lasting_sharing<O, S: Step<O>>(
+    loan: &Lending<'_, S>,
+    sizes: SharingSizes,
+    own: &mut Pieces,
+    once: &mut Option<Piece>,
+    out: &mut O,
+)
+    requires can { S.can loan.now.step.now out.old }
+    requires sharing { IsSharingFilter loan.now.table.now sizes }
+    requires sizes { HasPieces loan.now.table.now own.old (only_third once.old) }
+    ensures done { DoneIdle (S.done loan.now.step.now) loan.now.table.now loan.now.writable
+        own.old (only_third once.old) own.new (only_third once.new) out.old out.new }
+    ensures own { SamePieces own.old own.new }
+    ensures once { IsSamePiece once.old once.new }
+{
+    lend_sharing_filter_at_rest(loan, sizes, own, once, out);
 }
 
 /// Performs the step with the records of an idle filter, out of its own first two pieces: no other piece is looked at, and no plan made.

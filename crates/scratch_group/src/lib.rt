@@ -10,8 +10,10 @@ mod bases;
 mod group;
 mod lasting;
 mod plan;
+mod table;
 
-pub use bases::{lends_at_the_layout, rebase, rebase_filter, rebase_sharing};
+pub use bases::lends_at_the_layout;
 pub use group::{Group, Need};
-pub use lasting::{lend_lasting, lend_lasting_filter, lend_lasting_sharing};
-pub use plan::{ShortLoan, filter_sizes, is_filter, reader_sizes, sharing_sizes, short_loan};
+pub use lasting::{lend_lasting, lend_lasting_filter, lend_lasting_reader, lend_lasting_sharing};
+pub use plan::Loan;
+pub use table::LentTable;

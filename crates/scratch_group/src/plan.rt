@@ -2,11 +2,11 @@
 ghost use Rattle.std.specs.Prelude.{◌≡◌, ◌≤◌, ◌<◌, ◌+◌, ◌-◌, ◌*◌, ℕ, drop, take, length, MatchOption, IsTrue};
 ghost use Rattle.mem_rec.specs.Records.{is_table};
 ghost use Rattle.ialg.specs.Records.{record_at};
-ghost use Rattle.scratch_group.specs.Words.{is_filter, scratch_end, scratch_offset};
+ghost use Rattle.scratch_group.specs.Words.{scratch_end, scratch_offset};
 ghost use Rattle.scratch_group.specs.Plans.{cut_of, idle_cut_of, active_plan_of, idle_plan_of, IsWithinLimits};
 ghost use Rattle.scratch_group.specs.Filters.{IsOfFilter, IsOfNoFilter};
 ghost use Rattle.scratch_group.specs.Readers.{IsOfNoReader, IsOfReader};
-ghost use Rattle.scratch_group.specs.ShortLoans.{HasNoShortLoan, IsShortLoan};
+ghost use Rattle.scratch_group.specs.Loans.{IsLoan};
 ghost use Rattle.scratch_group.specs.Sharing.{IsOfNoSharingFilter, IsOfSharingFilter};
 
 use ialg::FILTER_RECORDS;
@@ -175,23 +175,9 @@ pub(crate) fn idle_plan(table: &MemTab) -> Plan
     }
 }
 
-/// Whether the table is one of a filter: behind the object one persistent record, and one scratch record in `daram`. None of these is write-once.
-#[inline(always)]
-pub fn is_filter(table: &MemTab) -> bool
-    ensures exact { result ≡ is_filter table.now }
-    ensures table { IsTrue (is_table table.now) }
-{
-    // a table's records are valid, as its list of records says
-    let _records = table.records();
-    table.len() == FILTER_RECORDS
-        && record(table, 1).attr == Attr::Persist
-        && record(table, 2).is_scratch_of(Space::Daram)
-}
-
 /// The sizes of a filter's records, where the table is one of a filter: behind the object one persistent record, and one scratch record in
 /// `daram`. None for every other table.
-#[inline(always)]
-pub fn filter_sizes(table: &MemTab) -> Option<FilterSizes>
+fn filter_sizes(table: &MemTab) -> Option<FilterSizes>
     ensures sizes { MatchOption result (IsOfNoFilter table.now) (IsOfFilter table.now) }
     ensures table { IsTrue (is_table table.now) }
 {
@@ -213,8 +199,7 @@ pub fn filter_sizes(table: &MemTab) -> Option<FilterSizes>
 
 /// The sizes of a reader's records, where the table is one of a reader: the object, and behind it one write-once record or nothing. None for every
 /// other table.
-#[inline(always)]
-pub fn reader_sizes(table: &MemTab) -> Option<ReaderSizes>
+fn reader_sizes(table: &MemTab) -> Option<ReaderSizes>
     ensures sizes { MatchOption result (IsOfNoReader table.now) (IsOfReader table.now) }
     ensures table { IsTrue (is_table table.now) }
 {
@@ -236,34 +221,9 @@ pub fn reader_sizes(table: &MemTab) -> Option<ReaderSizes>
     })
 }
 
-/// How the records of a table are lent without a plan: as those of a filter or of a reader.
-#[derive(Clone, Copy)]
-pub enum ShortLoan {
-    /// The records of a filter.
-    Filter(FilterSizes),
-    /// The records of a reader.
-    Reader(ReaderSizes),
-}
-
-/// How the records of the table are lent without a plan, where it is one of a filter or of a reader. None for every other table.
-#[inline(always)]
-pub fn short_loan(table: &MemTab) -> Option<ShortLoan>
-    ensures { MatchOption result (HasNoShortLoan table.now) (IsShortLoan table.now) }
-{
-    // readers first: they do the least at a sample
-    match reader_sizes(table) {
-        Some(sizes) => Some(ShortLoan::Reader(sizes)),
-        None => match filter_sizes(table) {
-            Some(sizes) => Some(ShortLoan::Filter(sizes)),
-            None => None,
-        },
-    }
-}
-
 /// The sizes of the records of a filter that shares its constants, where the table is one of such: behind the object one persistent record,
 /// one write-once record and one scratch record in `daram`. None for every other table.
-#[inline(always)]
-pub fn sharing_sizes(table: &MemTab) -> Option<SharingSizes>
+fn sharing_sizes(table: &MemTab) -> Option<SharingSizes>
     ensures sizes { MatchOption result (IsOfNoSharingFilter table.now) (IsOfSharingFilter table.now) }
     ensures table { IsTrue (is_table table.now) }
 {
@@ -286,4 +246,33 @@ pub fn sharing_sizes(table: &MemTab) -> Option<SharingSizes>
         constants: constants.size as usize,
         running: running.size as usize,
     })
+}
+
+/// How the records of a table are lent: its sizes and attributes say it once and for all.
+#[derive(Clone, Copy)]
+pub enum Loan {
+    /// As those of a filter.
+    Filter(FilterSizes),
+    /// As those of a reader.
+    Reader(ReaderSizes),
+    /// As those of a filter that shares its constants.
+    Sharing(SharingSizes),
+    /// By a plan, as those of any table can be.
+    Planned,
+}
+
+/// How the records of the table are lent: without a plan where it is one of a filter, of a reader or of a filter that shares its constants.
+pub(crate) fn loan_of(table: &MemTab) -> Loan
+    ensures { IsLoan table.now result }
+{
+    if let Some(sizes) = reader_sizes(table) {
+        return Loan::Reader(sizes);
+    }
+    if let Some(sizes) = filter_sizes(table) {
+        return Loan::Filter(sizes);
+    }
+    match sharing_sizes(table) {
+        Some(sizes) => Loan::Sharing(sizes),
+        None => Loan::Planned,
+    }
 }

@@ -21,6 +21,16 @@ use Rattle.scratch_group.specs.Words.{placed, HasPieces}
 use Rattle.lifecycle.specs.Rooms.{NoNeed, AreSeparate, piece_of_record}
 use Rattle.lifecycle.specs.States.{Fits}
 use Rattle.lifecycle.proofs.Places.{there_is_room}
+use Rattle.record_loans.proofs.PieceLemmas.{same_pieces}
+use Rattle.host_shared.specs.declared.locations.Locations.{Locations}
+use Rattle.host_shared.specs.Locations.{shared_at}
+use Rattle.host_shared.specs.Owners.{OnlyItsPiecesChange}
+use Rattle.host_shared.proofs.Owners.{count_seen}
+use Rattle.lifecycle.specs.declared.instance.Instance.{Instance}
+use Rattle.lifecycle.specs.States.{SameInstance}
+use Rattle.lifecycle.specs.Turns.{CanBeLent}
+use Rattle.lifecycle.proofs.Frames.{fits_at}
+use Rattle.test_lives.specs.Blocks.{SameBlocks}
 use Rattle.test_lives.specs.Owners.{two_taps, IsAllOf, IsPieceThere, IsReady}
 
 none_needed : (t : Bool) (x : Need) → t ≡ true → (if t then None else Some x) ≡ None
@@ -149,16 +159,8 @@ same_pieces_then a b c e f = record {
 same_block_then : (a b c : Option ScratchBlock) → IsSameBlock a b → IsSameBlock b c → IsSameBlock a c
 same_block_then a b c e f = (same_then (block_piece a) (block_piece b) (block_piece c) e.0 f.0, f.1 ∙ e.1)
 
-pub same_group_then : (a b c : Group) → SameGroup a b → SameGroup b c → SameGroup a c
-same_group_then a b c e f = record {
-  daram = same_block_then a.daram b.daram c.daram e.daram f.daram;
-  saram = same_block_then a.saram b.saram c.saram e.saram f.saram;
-  external = same_block_then a.external b.external c.external e.external f.external;
-  active = f.active ∙ e.active;
-  activations = f.activations ∙ e.activations;
-}
-
--- whole regions, and the group that has one for a block
+pub same_blocks_then : (a b c : Group) → SameBlocks a b → SameBlocks b c → SameBlocks a c
+same_blocks_then a b c e f space = same_block_then (block_in a space) (block_in b space) (block_in c space) (e space) (f space)
 
 pub owner : (n : ℕ) (p : Span) (r : Extent) → n ≤ RECORD_WORDS → r.size ≡ n → (p.region ≡ r) × IsWhole p → IsPieceThere n p
 owner n p r few size whole =
@@ -184,10 +186,10 @@ none_stays None None same e = refl
 none_stays None (Some b) same e = let p = same.0 in cc
 none_stays (Some b) b' same e = cc
 
-pub all_gone : (g1 g2 g3 : Group) → IsReady g1 → SameGroup g1 g2 → SameBut Daram g2 g3 → g3.daram ≡ None → (space : Space) → block_in g3 space ≡ None
+pub all_gone : (g1 g2 g3 : Group) → IsReady g1 → SameBlocks g1 g2 → SameBut Daram g2 g3 → g3.daram ≡ None → (space : Space) → block_in g3 space ≡ None
 all_gone g1 g2 g3 ready same went gone Daram = gone
-all_gone g1 g2 g3 ready same went gone Saram = went.others Saram saram_is_not_daram ∙ none_stays g1.saram g2.saram same.saram ready.saram
-all_gone g1 g2 g3 ready same went gone External = went.others External external_is_not_daram ∙ none_stays g1.external g2.external same.external ready.external
+all_gone g1 g2 g3 ready same went gone Saram = went.others Saram saram_is_not_daram ∙ none_stays g1.saram g2.saram (same Saram) ready.saram
+all_gone g1 g2 g3 ready same went gone External = went.others External external_is_not_daram ∙ none_stays g1.external g2.external (same External) ready.external
 
 -- what came back is what was placed
 pub same_block_span : (align : ℕ) (p s : Span) (b1 b2 : Option ScratchBlock) → b1 ≡ Some (record { piece = p; align = align }) → IsSameBlock b1 b2 → block_piece b2 ≡ Some s → IsSamePiece (Some p) (Some s)
@@ -201,3 +203,20 @@ pub all_same : (r : Extent) (p q : Option Span) → IsAllOf r p → IsSamePiece 
 all_same r None q all same = absurd all
 all_same r (Some p) None all same = absurd same
 all_same r (Some p) (Some q) all same = still_whole p q r all same
+
+-- one call behind another
+pub same_instance_then : {M : Type 0} {a b c : Instance M} → SameInstance a b → SameInstance b c → SameInstance a c
+same_instance_then {a = a} {b = b} {c = c} e f =
+    record { kind = f.kind ∙ e.kind; params = f.params ∙ e.params; table = f.table ∙ e.table; own = same_pieces_then a.own b.own c.own e.own f.own }
+
+-- another member of the group was active meanwhile
+pub lent_beside : {M : Type 0} {s : Instance M} {sharing : List Locations} {i : ℕ} {g g' : Group} → CanBeLent s sharing i g → SameBlocks g g' → CanBeLent s sharing i g'
+lent_beside {s = s} {sharing} {i} {g} {g'} lent blocks = record {
+  number = lent.number;
+  owners = lent.owners;
+  fits = fits_at s.table s.own s.own (shared_at sharing i) (shared_at sharing i) g g' (same_pieces s.own) (same_pieces (shared_at sharing i)) (λ space. (blocks space).0) lent.fits;
+}
+
+-- a call leaves as many locations as there are
+pub same_count : {M : Type 0} {s : Instance M} {sharing sharing' : List Locations} {i : ℕ} {g : Group} → CanBeLent s sharing i g → OnlyItsPiecesChange i sharing sharing' → length sharing' ≡ length sharing
+same_count {sharing = sharing} {sharing'} {i} lent seen = ap length seen ∙ count_seen sharing i lent.owners (shared_at sharing' i)

@@ -1,3 +1,4 @@
 pub mod Housing
 pub mod Lives
 pub mod Rooms
+pub mod Single

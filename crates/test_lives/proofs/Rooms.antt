@@ -19,6 +19,7 @@ use Rattle.lifecycle.specs.Rooms.{NoNeed, AreSeparate, piece_of_record}
 use Rattle.lifecycle.specs.States.{Fits}
 use Rattle.lifecycle.proofs.Frames.{fits_by_places}
 use Rattle.lifecycle.proofs.Places.{there_is_room}
+use Rattle.test_lives.specs.Blocks.{SameBlocks}
 use Rattle.test_lives.specs.Owners.{IsPieceThere}
 use Rattle.test_lives.proofs.Housing.{block_serves, first, none_stays, saram_is_not_daram, external_is_not_daram}
 use Rattle.test_doubles.specs.Slicer.{slicer_records}
@@ -143,12 +144,12 @@ slicer_fits rs o l low high g0 g1 g2 table ho hl behind none ed first_same es se
     (is_block 4 64 g2.saram high es hhigh) (no_external g0 g1 g2 none first_same second_same))
 
 -- both blocks were taken out
-pub all_gone : (g2 g3 g4 g5 : Group) → g2.external ≡ None → SameGroup g2 g3 → SameBut Daram g3 g4 → g4.daram ≡ None → SameBut Saram g4 g5 → g5.saram ≡ None
+pub all_gone : (g2 g3 g4 g5 : Group) → g2.external ≡ None → SameBlocks g2 g3 → SameBut Daram g3 g4 → g4.daram ≡ None → SameBut Saram g4 g5 → g5.saram ≡ None
     → (space : Space) → block_in g5 space ≡ None
 all_gone g2 g3 g4 g5 none same first gone second gone_too Daram = second.others Daram daram_is_not_saram ∙ gone
 all_gone g2 g3 g4 g5 none same first gone second gone_too Saram = gone_too
 all_gone g2 g3 g4 g5 none same first gone second gone_too External =
-    second.others External external_is_not_saram ∙ first.others External external_is_not_daram ∙ none_stays g2.external g3.external same.external none
+    second.others External external_is_not_saram ∙ first.others External external_is_not_daram ∙ none_stays g2.external g3.external (same External) none
 
 pub piece_left : (g3 g4 : Group) → SameBut Daram g3 g4 → block_piece g4.saram ≡ block_piece g3.saram
 piece_left g3 g4 same = ap block_piece (same.others Saram saram_is_not_daram)

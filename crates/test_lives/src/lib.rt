@@ -4,6 +4,8 @@
 #![tactic(auto)]
 
 #[cfg(test)]
+mod alone;
+#[cfg(test)]
 mod neighbour_tests;
 #[cfg(test)]
 mod neighbours;

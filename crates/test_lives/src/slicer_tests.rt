@@ -4,6 +4,7 @@ ghost use Rattle.ialg.specs.Records.{unplaced};
 ghost use Rattle.test_doubles.specs.declared.TheConstants.{LEVELS};
 ghost use Rattle.test_doubles.specs.Slicer.{slicer_records};
 
+use crate::alone::{alone, parted};
 use crate::regions::{close_both, nothing, region, take_block};
 use crate::slicer::live;
 use ialg::{Block, Ialg, PARAMETER_WORDS, Params, Status, Words, copied};
@@ -56,12 +57,13 @@ fn a_slicer_lives(rt: HostRuntime) {
         p2: None,
         p3: None,
     };
-    let mut shared = Pieces {
+    let shared = Pieces {
         p0: None,
         p1: Some(levels),
         p2: None,
         p3: None,
     };
+    let mut sharing = alone(&rt, rt.alloc(), shared);
     let parameters = words(&rt, &[-5, 7]);
     let table = table(&rt, &parameters);
     let mut out = Block::new();
@@ -69,7 +71,7 @@ fn a_slicer_lives(rt: HostRuntime) {
         parameters,
         table,
         own,
-        &mut shared,
+        &mut sharing,
         &mut group,
         &[-1, 0, 3],
         &mut out,
@@ -79,7 +81,7 @@ fn a_slicer_lives(rt: HostRuntime) {
 
     let (object, none) = two(&rt, member.finish());
     nothing(&rt, none);
-    let (none, levels) = two(&rt, shared);
+    let (none, levels) = two(&rt, parted(&rt, sharing));
     nothing(&rt, none);
     let levels = levels.expect(&rt, "the levels");
     assert!(rt; levels.words() == [-5i16, 7].as_slice());

@@ -9,11 +9,11 @@ mod heaps;
 #[cfg(test)]
 mod lending;
 #[cfg(test)]
+mod loans;
+#[cfg(test)]
 mod primed;
 #[cfg(test)]
 mod regions;
-#[cfg(test)]
-mod short_loans;
 #[cfg(test)]
 mod spaces;
 #[cfg(test)]

@@ -55,23 +55,6 @@ fn run<M: Ialg>(host: &mut Host<M>, member: u8, block: &[i16], given: &mut Block
     }
 }
 
-/// Gives the one member of a channel the block, as [`run`] does.
-///
-/// An active member with a short loan is given it here, without a call, since at one sample a call weighs as much as the work.
-#[inline(always)]
-fn run_alone<M: Ialg>(host: &mut Host<M>, member: u8, block: &[i16], given: &mut Block)
-    requires within { length block.now ≤ BLOCK_SAMPLES }
-    ensures bounded { length given.new.items ≤ length block.now }
-    ensures passes { PassesThrough M.law (member ∷ []) block.now given.new.items host.old host.new }
-{
-    // Before the question: what is read for its answer is then at hand for the member, with no write between.
-    given.clear();
-    match host.short_loan(member) {
-        Some(loan) if !block.is_empty() => host.process_short(member, loan, block, given),
-        _ => run(host, member, block, given),
-    }
-}
-
 /// Gives the one member of a channel a sample: some sample is what it told, without being run. None: what it gave takes the place of what
 /// `given` held.
 #[inline(always)]
@@ -81,14 +64,10 @@ fn run_sample<M: Ialg>(host: &mut Host<M>, member: u8, x: i16, given: &mut Block
     ensures passes { IfNone result (PassesThrough M.law (member ∷ []) (x ∷ []) given.new.items host.old host.new) }
 {
     given.clear();
-    let Some(loan) = host.short_loan(member) else {
-        run(host, member, &[x], given);
-        return None;
-    };
-    match host.process_sample(member, loan, x) {
+    match host.process_sample(member, x) {
         Some(told) => Some(told),
         None => {
-            host.process_short(member, loan, &[x], given);
+            run(host, member, &[x], given);
             None
         }
     }
@@ -136,7 +115,7 @@ fn pass<M: Ialg>(
             out.clear();
             give_out(block, out);
         }
-        [member] => run_alone(host, *member, block, out),
+        [member] => run(host, *member, block, out),
         [member, next, behind @ ..] => {
             run(host, *member, block, &mut between.one);
             pass_on(

@@ -1,5 +1,5 @@
 # SPDX-License-Identifier: Apache-2.0
-"""dsp_design: filters and tone detectors as lines of a dsp_console script, with the response that the rounded words have."""
+"""dsp_design: filters, detectors and generators as lines of a dsp_console script, with the response that the rounded words have."""
 
 from __future__ import annotations
 
@@ -14,9 +14,9 @@ from .common import ended, need
 from .run import version
 
 if TYPE_CHECKING:
-    from ..design import Biquads, Digits, Fir, Gain, Level, Tones
+    from ..design import Activity, Biquads, Digits, Echo, Fir, Gain, Level, Signals, Tones
 
-    Made = Union[Biquads, Fir, Tones, Gain, Level, Digits]
+    Made = Union[Biquads, Fir, Tones, Gain, Level, Digits, Signals, Echo, Activity]
 
 NAME = "dsp_design"
 Subparsers = argparse._SubParsersAction  # the type has no public name
@@ -25,6 +25,8 @@ The lines go to the standard output, the response and what saturates to the stan
   dsp_design band 300 3400 > phone.txt && echo 'feed 0 all' >> phone.txt && dsp_run phone.txt in.wav out.wav
 Your own design, as scipy's output='sos' or numpy.savetxt has it:
   dsp_design sos sections.txt
+Digits, with zeros as their clock:
+  dsp_design signal 0123 > digits.txt && head -c 100000 /dev/zero | dsp_run digits.txt - digits.raw
 """
 
 
@@ -104,6 +106,22 @@ def add_others(which: Subparsers) -> None:
     one.add_argument("--shift", type=int, metavar="S", help="samples are shifted to the right by so many bits; else the least for which no frame saturates")
     one = which.add_parser("dtmf", help="a detector of dialled digits, for 8,000 samples a second (gateway_console)", parents=[place_options()], allow_abbrev=False)
     one.add_argument("--set", choices=("a", "b"), default="a", help="a finds tokens of 40 ms, b takes none of 23 ms for a digit (a)")
+    one = which.add_parser("signal", help="tones by name: keys of a telephone, as 0123, or us-dial, us-busy, us-congestion, eu-dial, .. (gateway_console)", parents=[common_options()], allow_abbrev=False)
+    one.add_argument("names", metavar="NAME", help="keys out of 123A456B789C*0#D, or a call progress tone")
+    one.add_argument("--level", type=float, default=-10.0, metavar="DB", help="the peak of each tone in dB of full scale (-10)")
+    one.add_argument("--on", type=float, metavar="MS", help="how long it sounds (as the name has it)")
+    one.add_argument("--off", type=float, metavar="MS", help="how long it doesn't")
+    one = which.add_parser("echo", help="a line echo canceller over pairs, the far end first (gateway_console)", parents=[common_options()], allow_abbrev=False)
+    one.add_argument("--ms", type=float, default=16.0, metavar="MS", help="how late an echo may be (16)")
+    one.add_argument("--step", type=float, default=0.25, metavar="X", help="how fast it learns, 0 to 1 (0.25)")
+    one.add_argument("--loud", type=float, default=0.5, metavar="X", help="the near end talks where it is louder than this share of the far end, 0 to 1 (0.5)")
+    one.add_argument("--hold", type=float, default=30.0, metavar="MS", help="for how long it doesn't learn once the near end talks (30)")
+    one = which.add_parser("activity", help="a detector of voice activity (gateway_console)", parents=[common_options()], allow_abbrev=False)
+    one.add_argument("--ms", type=float, default=10.0, metavar="MS", help="how long a frame is (10)")
+    one.add_argument("--margin", type=float, default=9.0, metavar="DB", help="how far above the floor speech is (9)")
+    one.add_argument("--rise", type=float, default=3.0, metavar="DB", help="how fast the floor rises in a second (3)")
+    one.add_argument("--least", type=float, default=-70.0, metavar="DB", help="the least floor in dB of full scale (-70)")
+    one.add_argument("--hang", type=float, default=150.0, metavar="MS", help="for how long speech lasts behind its last frame (150)")
 
 
 def made_of(given: argparse.Namespace) -> Made:
@@ -126,6 +144,12 @@ def made_of(given: argparse.Namespace) -> Made:
         return design.level(given.frame, given.shift)
     if given.what == "dtmf":
         return design.dtmf(given.set)
+    if given.what == "signal":
+        return design.signal(given.names, given.level, given.rate, *(None if it is None else it / 1000 for it in (given.on, given.off)))
+    if given.what == "echo":
+        return design.echo(given.ms, given.step, given.loud, given.hold, given.rate)
+    if given.what == "activity":
+        return design.activity(given.ms, given.margin, given.rise, given.least, given.hang, given.rate)
     if given.what == "decim":
         return design.decim(given.factor, given.taps, given.edge, given.rate, given.scale)
     return design.band_of({"low": "lowpass", "high": "highpass", "band": "bandpass"}[given.what], given.edges, given.order, given.rate, given.ripple, given.scale)
@@ -142,7 +166,7 @@ def points(given: argparse.Namespace) -> list[float]:
 
 def tell(given: argparse.Namespace, made: Made) -> None:
     """Writes the response, and what saturates, to the standard error."""
-    from ..design import Biquads, Digits, Fir, Gain, Level, Tones, decibels
+    from ..design import Activity, Biquads, Digits, Echo, Fir, Gain, Level, Signals, Tones, decibels
 
     told: list[str] = []
     if isinstance(made, Tones):
@@ -158,6 +182,13 @@ def tell(given: argparse.Namespace, made: Made) -> None:
         told = [f"a value for each {made.frame} samples: a root of the mean square of x has (x / {2**made.shift})^2 * {made.frame} / 32768"]
     elif isinstance(made, Digits):
         told = [f"a code for each {made.words[0]} samples: a digit counts once {made.frames_on} frames in a row have its code, and again once {made.frames_off} haven't"]
+    elif isinstance(made, Signals):
+        told = [f"{one.name}: {' and '.join(f'{it:.2f}' for it in one.frequencies)} Hz, {one.words[4]} samples on and {one.words[5]} off" for one in dict.fromkeys(made.parts)]
+        told += [f"the input is the clock: it has {made.samples} samples or more"] if len(made.parts) > 1 else []
+    elif isinstance(made, Echo):
+        told = [f"{made.words[0]} coefficients, for echoes up to {made.milliseconds:g} ms; its input is pairs of samples, that of the far end first, as a stereo file has them"]
+    elif isinstance(made, Activity):
+        told = [f"1 or 0 for each {made.words[0]} samples: speech is {made.margin:.1f} dB above the floor, which rises by {made.rise:.2f} dB a second and is at least {made.least:.1f} dB of full scale"]
     print("\n".join(told), file=sys.stderr)
     for text in made.warnings():
         print(f"{NAME}: {text}", file=sys.stderr)

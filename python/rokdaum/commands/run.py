@@ -111,7 +111,7 @@ def parser() -> argparse.ArgumentParser:
     made.add_argument("--rate", type=float, default=DEFAULT_RATE, metavar="HZ", help="samples a second of an IN that is no WAV file (8000), for an OUT that is one")
     made.add_argument("--history", type=Path, metavar="FILE", help="ask behind each line who is where, and write it for dsp_map")
     made.add_argument("--spectrogram", type=Path, metavar="FILE", help="draw what went in beside what came out (.png, .svg, .pdf); takes matplotlib")
-    made.add_argument("--program", metavar="P", help="the words that start dsp_console; else those of DSP_CONSOLE")
+    made.add_argument("--program", metavar="P", help="the words that start dsp_console, or gateway_console for a script with its kinds; else those of DSP_CONSOLE, or GATEWAY_CONSOLE")
     made.add_argument("--quiet", action="store_true", help="no progress and no notes; refused lines are still told")
     made.add_argument("--version", action="version", version=f"{NAME} {version()}")
     return made

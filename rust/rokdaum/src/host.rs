@@ -1,6 +1,6 @@
 // SPDX-License-Identifier: Apache-2.0
 use crate::error::{Error, Refused};
-use crate::kinds::{Kind, Parameters};
+use crate::kinds::{AnyParameters, Kind, Parameters};
 use crate::members::Members;
 use rokdaum_sys as sys;
 use std::cell::{Cell, UnsafeCell};
@@ -146,21 +146,63 @@ impl Host {
 
     /// Creates an instance in a scratch group.
     pub fn create<K: Kind>(&self, group: Group, parameters: Parameters<K>) -> Result<Instance<'_, K>, Error> {
+        let number = self.create_numbered(group, K::CODE, parameters.words())?;
+        Ok(Instance { host: self, number, kind: PhantomData })
+    }
+
+    /// The same for a kind that is known only when the program runs.
+    pub fn create_any(&self, group: Group, parameters: impl Into<AnyParameters>) -> Result<AnyInstance<'_>, Error> {
+        let parameters = parameters.into();
+        let number = self.create_numbered(group, parameters.code, parameters.words())?;
+        Ok(AnyInstance { host: self, number, name: parameters.name })
+    }
+
+    fn create_numbered(&self, group: Group, kind: i32, words: &[i16]) -> Result<u8, Error> {
         let number = (!self.numbers.get()).trailing_zeros();
         if number == 64 {
             return Err(Error::Instances);
         }
-        let (words, mut full) = (parameters.words(), 0);
+        let mut full = 0;
         // SAFETY: the pointers are of living values, and `words` has so many.
-        let code = unsafe { sys::rokdaum_create(self.raw.get(), number as u8, K::CODE, group as u8, words.as_ptr(), words.len(), &mut full) };
+        let code = unsafe { sys::rokdaum_create(self.raw.get(), number as u8, kind, group as u8, words.as_ptr(), words.len(), &mut full) };
         match code {
             sys::ROKDAUM_OK => {
                 self.numbers.set(self.numbers.get() | 1 << number);
-                Ok(Instance { host: self, number: number as u8, kind: PhantomData })
+                Ok(number as u8)
             }
             sys::ROKDAUM_ROOM => Err(Error::Room([Space::Daram, Space::Saram, Space::External][full as usize])),
             sys::ROKDAUM_BAD_LENGTH => Err(Error::BadLength),
             _ => Err(Error::Params),
+        }
+    }
+
+    pub(crate) fn delete_numbered(&self, number: u8) {
+        // SAFETY: the handle is open, and a line unchains its members before it drops them.
+        let code = unsafe { sys::rokdaum_delete(self.raw.get(), number) };
+        if code == sys::ROKDAUM_OK {
+            self.numbers.set(self.numbers.get() & !(1 << number));
+        }
+    }
+
+    pub(crate) fn reset_numbered(&self, number: u8) {
+        // SAFETY: the handle is open.
+        sure(unsafe { sys::rokdaum_reset(self.raw.get(), number) });
+    }
+
+    pub(crate) fn get_numbered(&self, number: u8) -> Vec<i16> {
+        let (mut words, mut count) = (vec![0; sys::ROKDAUM_PARAMETER_WORDS], 0);
+        // SAFETY: the pointers are of living values, and `words` has so many.
+        sure(unsafe { sys::rokdaum_get(self.raw.get(), number, words.as_mut_ptr(), words.len(), &mut count) });
+        words.truncate(count as usize);
+        words
+    }
+
+    pub(crate) fn set_numbered(&self, number: u8, words: &[i16]) -> Result<(), Error> {
+        // SAFETY: `words` has so many.
+        match unsafe { sys::rokdaum_set(self.raw.get(), number, words.as_ptr(), words.len()) } {
+            sys::ROKDAUM_OK => Ok(()),
+            sys::ROKDAUM_COMMAND => Err(Error::Command),
+            _ => Err(Error::BadLength),
         }
     }
 
@@ -184,6 +226,36 @@ impl Host {
             return Ok(Line { host: self, channel, members: Some(members) });
         };
         Err(Refused { error, members })
+    }
+
+    pub(crate) fn unchain_channel(&self, channel: u8) {
+        // SAFETY: the handle is open.
+        sure(unsafe { sys::rokdaum_unchain(self.raw.get(), channel) });
+        self.channels.set(self.channels.get() & !(1 << channel));
+    }
+
+    pub(crate) fn feed_channel(&self, channel: u8, samples: &[i16], out: &mut [i16]) -> Result<usize, Error> {
+        if out.len() < samples.len() {
+            return Err(Error::BadLength);
+        }
+        let mut given = 0;
+        // SAFETY: the slices have so many, and don't overlap.
+        sure(unsafe { sys::rokdaum_feed_all(self.raw.get(), channel, samples.as_ptr(), samples.len(), out.as_mut_ptr(), out.len(), &mut given) });
+        Ok(given)
+    }
+
+    pub(crate) fn feed_channel_vec(&self, channel: u8, samples: &[i16]) -> Vec<i16> {
+        let mut out = vec![0; samples.len()];
+        let given = self.feed_channel(channel, samples, &mut out).unwrap_or(0);
+        out.truncate(given);
+        out
+    }
+
+    pub(crate) fn feed_channel_one(&self, channel: u8, sample: i16) -> Option<i16> {
+        let (mut out, mut given) = (0, 0);
+        // SAFETY: the pointers are of living values, one sample each.
+        sure(unsafe { sys::rokdaum_feed(self.raw.get(), channel, &sample, 1, &mut out, 1, &mut given) });
+        (given == 1).then_some(out)
     }
 
     /// Moves the first block of a space that can be moved down; whether one was.
@@ -271,40 +343,90 @@ impl<'h, K: Kind> Instance<'h, K> {
 
     /// Lets it forget its past.
     pub fn reset(&self) {
-        // SAFETY: the handle is open.
-        sure(unsafe { sys::rokdaum_reset(self.host.raw.get(), self.number) });
+        self.host.reset_numbered(self.number);
     }
 
     /// What it tells of itself: its coefficients, or the samples in its frame.
     pub fn get(&self) -> Vec<i16> {
-        let (mut words, mut count) = (vec![0; sys::ROKDAUM_PARAMETER_WORDS], 0);
-        // SAFETY: the pointers are of living values, and `words` has so many.
-        sure(unsafe { sys::rokdaum_get(self.host.raw.get(), self.number, words.as_mut_ptr(), words.len(), &mut count) });
-        words.truncate(count as usize);
-        words
+        self.host.get_numbered(self.number)
     }
 
     pub(crate) fn set_words(&self, words: &[i16]) -> Result<(), Error> {
-        // SAFETY: `words` has so many.
-        match unsafe { sys::rokdaum_set(self.host.raw.get(), self.number, words.as_ptr(), words.len()) } {
-            sys::ROKDAUM_OK => Ok(()),
-            _ => Err(Error::BadLength),
-        }
+        // With another number of words than it has, a filter doesn't take the command.
+        self.host.set_numbered(self.number, words).map_err(|_| Error::BadLength)
     }
 
     pub(crate) fn set_fixed(&self, words: &[i16]) {
-        // SAFETY: `words` has so many.
-        sure(unsafe { sys::rokdaum_set(self.host.raw.get(), self.number, words.as_ptr(), words.len()) });
+        assert_eq!(self.host.set_numbered(self.number, words), Ok(()), "librokdaum refuses what its kind takes");
     }
 }
 
 impl<K: Kind> Drop for Instance<'_, K> {
     fn drop(&mut self) {
-        // SAFETY: the handle is open, and a line unchains its members before it drops them.
-        let code = unsafe { sys::rokdaum_delete(self.host.raw.get(), self.number) };
-        if code == sys::ROKDAUM_OK {
-            self.host.numbers.set(self.host.numbers.get() & !(1 << self.number));
-        }
+        self.host.delete_numbered(self.number);
+    }
+}
+
+/// An instance of a kind that is known only when the program runs. It is deleted when it is dropped.
+pub struct AnyInstance<'h> {
+    host: &'h Host,
+    number: u8,
+    name: &'static str,
+}
+
+impl fmt::Debug for AnyInstance<'_> {
+    fn fmt(&self, f: &mut fmt::Formatter<'_>) -> fmt::Result {
+        write!(f, "{} {}", self.name, self.number)
+    }
+}
+
+impl<'h> AnyInstance<'h> {
+    /// Its number, as maps have it.
+    pub fn number(&self) -> u8 {
+        self.number
+    }
+
+    /// The name of its kind.
+    pub fn name(&self) -> &'static str {
+        self.name
+    }
+
+    pub(crate) fn host(&self) -> &'h Host {
+        self.host
+    }
+
+    /// Puts words into force. Refused with [`Error::Command`] where its kind doesn't take `set`, or takes another number of words, and with
+    /// [`Error::BadLength`] past 72 of them.
+    pub fn set(&self, words: &[i16]) -> Result<(), Error> {
+        self.host.set_numbered(self.number, words)
+    }
+
+    /// Lets it forget its past.
+    pub fn reset(&self) {
+        self.host.reset_numbered(self.number);
+    }
+
+    /// What it tells of itself.
+    pub fn get(&self) -> Vec<i16> {
+        self.host.get_numbered(self.number)
+    }
+
+    /// Its number, which whoever asks deletes from then on.
+    pub(crate) fn into_number(self) -> u8 {
+        std::mem::ManuallyDrop::new(self).number
+    }
+}
+
+impl Drop for AnyInstance<'_> {
+    fn drop(&mut self) {
+        self.host.delete_numbered(self.number);
+    }
+}
+
+impl<'h, K: Kind> From<Instance<'h, K>> for AnyInstance<'h> {
+    fn from(one: Instance<'h, K>) -> AnyInstance<'h> {
+        let one = std::mem::ManuallyDrop::new(one);
+        AnyInstance { host: one.host, number: one.number, name: K::NAME }
     }
 }
 
@@ -325,29 +447,17 @@ impl<'h, M: Members<'h>> Line<'h, M> {
     /// Passes samples through it. What the last member gives is written to `out`, which has room for as many as go in; how many they are
     /// is returned.
     pub fn feed(&mut self, samples: &[i16], out: &mut [i16]) -> Result<usize, Error> {
-        if out.len() < samples.len() {
-            return Err(Error::BadLength);
-        }
-        let mut given = 0;
-        // SAFETY: the slices have so many, and don't overlap.
-        sure(unsafe { sys::rokdaum_feed_all(self.host.raw.get(), self.channel, samples.as_ptr(), samples.len(), out.as_mut_ptr(), out.len(), &mut given) });
-        Ok(given)
+        self.host.feed_channel(self.channel, samples, out)
     }
 
     /// Passes samples through it, and returns what the last member gives.
     pub fn feed_vec(&mut self, samples: &[i16]) -> Vec<i16> {
-        let mut out = vec![0; samples.len()];
-        let given = self.feed(samples, &mut out).unwrap_or(0);
-        out.truncate(given);
-        out
+        self.host.feed_channel_vec(self.channel, samples)
     }
 
     /// Passes one sample through it.
     pub fn feed_one(&mut self, sample: i16) -> Option<i16> {
-        let (mut out, mut given) = (0, 0);
-        // SAFETY: the pointers are of living values, one sample each.
-        sure(unsafe { sys::rokdaum_feed(self.host.raw.get(), self.channel, &sample, 1, &mut out, 1, &mut given) });
-        (given == 1).then_some(out)
+        self.host.feed_channel_one(self.channel, sample)
     }
 
     /// Its members, whose `set`, `get` and `reset` go on.
@@ -361,10 +471,17 @@ impl<'h, M: Members<'h>> Line<'h, M> {
     }
 }
 
+impl<'h> Line<'h, Vec<AnyInstance<'h>>> {
+    /// Its channel and the numbers of its members, which whoever asks unchains and deletes from then on.
+    pub(crate) fn into_numbers(self) -> (u8, Vec<u8>) {
+        let mut line = std::mem::ManuallyDrop::new(self);
+        let members = line.members.take().unwrap_or_default();
+        (line.channel, members.into_iter().map(AnyInstance::into_number).collect())
+    }
+}
+
 impl<'h, M: Members<'h>> Drop for Line<'h, M> {
     fn drop(&mut self) {
-        // SAFETY: the handle is open.
-        sure(unsafe { sys::rokdaum_unchain(self.host.raw.get(), self.channel) });
-        self.host.channels.set(self.host.channels.get() & !(1 << self.channel));
+        self.host.unchain_channel(self.channel);
     }
 }

@@ -47,8 +47,52 @@ impl<K> Parameters<K> {
     }
 }
 
+/// The parameters of an instance whose kind is known only when the program runs.
+#[derive(Clone, Copy, Debug)]
+pub struct AnyParameters {
+    pub(crate) name: &'static str,
+    pub(crate) code: i32,
+    words: [i16; MOST_WORDS],
+    count: usize,
+}
+
+impl AnyParameters {
+    /// Words for the kind that scripts call by this name.
+    pub fn named(name: &str, words: &[i16]) -> Result<AnyParameters, Error> {
+        let &(name, code) = NAMES.iter().find(|it| it.0 == name).ok_or(Error::Kind)?;
+        let given: Parameters<()> = Parameters::of(&[words])?;
+        Ok(AnyParameters { name, code, words: given.words, count: given.count })
+    }
+
+    /// The name of the kind.
+    pub fn name(&self) -> &'static str {
+        self.name
+    }
+
+    /// The words, as a script has them.
+    pub fn words(&self) -> &[i16] {
+        &self.words[..self.count]
+    }
+}
+
+impl<K: Kind> From<Parameters<K>> for AnyParameters {
+    fn from(given: Parameters<K>) -> AnyParameters {
+        AnyParameters { name: K::NAME, code: K::CODE, words: given.words, count: given.count }
+    }
+}
+
+impl<K: Kind> Parameters<K> {
+    /// The same, for lists of several kinds.
+    pub fn any(self) -> AnyParameters {
+        self.into()
+    }
+}
+
 macro_rules! kinds {
-    ($($(#[$about:meta])* $name:ident $text:literal $code:literal,)*) => {$(
+    ($($(#[$about:meta])* $name:ident $text:literal $code:literal,)*) => {
+        /// The names and numbers of the kinds.
+        const NAMES: &[(&str, i32)] = &[$(($text, $code)),*];
+    $(
         $(#[$about])*
         #[derive(Clone, Copy, Debug)]
         pub enum $name {}
@@ -83,6 +127,8 @@ kinds! {
     Adpcm "adpcm" 9,
     /// One or two tones with a cadence, clocked by the samples that it takes.
     Signal "signal" 10,
+    /// Voice activity: for each frame 1 while somebody talks, and else 0.
+    Activity "activity" 11,
 }
 
 /// The kbit/s of a coder of G.726.
@@ -214,6 +260,15 @@ impl Signal {
     /// Seven words: k1, s1, k2, s2, the samples on, the samples off, and the number of cycles, 0 for no end.
     pub fn with(words: [i16; 7]) -> Parameters<Signal> {
         Parameters::few(&words)
+    }
+}
+
+impl Activity {
+    /// 1 to 1,024 samples a frame, the shift of squares, the margin over the floor and its rise in a frame, 0 to 15 each, the least floor,
+    /// and the frames of the hangover.
+    #[allow(clippy::new_ret_no_self)]
+    pub fn new(samples: u16, bits: [i16; 3], least: i16, hang: i16) -> Result<Parameters<Activity>, Error> {
+        Parameters::of(&[&[i16::try_from(samples).map_err(|_| Error::Params)?], &bits, &[least, hang]])
     }
 }
 

@@ -25,7 +25,8 @@
 //! - a number of an instance or a channel is never named: what lives has a value, and what is dropped is deleted;
 //! - an instance that is a member of a line is owned by it, so it can't be deleted, nor be in two lines;
 //! - `set` exists for the kinds that take it, with as many words as they take;
-//! - a host outlives what lives in it. It may go from thread to thread, and is shared by none.
+//! - a host outlives what lives in it. It may go from thread to thread, and is shared by none; a [`SharedHost`] is, under a lock, and its
+//!   lines own a share of it.
 //!
 //! ```compile_fail,E0505
 //! # use rokdaum::*;
@@ -71,11 +72,13 @@ mod host;
 mod kinds;
 mod members;
 pub mod operators;
+mod shared;
 
 pub use error::{Error, Refused};
-pub use host::{Block, Group, Host, Instance, Line, Options, Owner, Space, Stat, BLOCK_SAMPLES};
-pub use kinds::{Adpcm, Biquad, Decim, Digits, Dtmf, Echo, Fir, Gain, Kind, Law, Level, Parameters, Rate, Signal, Tone, G711};
+pub use host::{AnyInstance, Block, Group, Host, Instance, Line, Options, Owner, Space, Stat, BLOCK_SAMPLES};
+pub use kinds::{Activity, Adpcm, AnyParameters, Biquad, Decim, Digits, Dtmf, Echo, Fir, Gain, Kind, Law, Level, Parameters, Rate, Signal, Tone, G711};
 pub use members::Members;
+pub use shared::{OwnedLine, SharedHost};
 
 /// The version of the library that this crate stands over.
 pub fn version() -> &'static str {

@@ -1,4 +1,6 @@
 // SPDX-License-Identifier: Apache-2.0
+// What is collected lives at once, be it instances or threads: an iterator would make one after the other.
+#![allow(clippy::needless_collect)]
 use rokdaum::*;
 
 fn host() -> Host {
@@ -123,6 +125,9 @@ fn codes_of_g726_and_pairs_of_a_canceller() {
     assert!(host.create(Group::G1, Echo::new(257, 1, 1, 1).unwrap()).is_err());
     let mut rings = host.chain((host.create(Group::G2, Signal::with([0, 0, 0, 0, 2, 1, 1])).unwrap(),)).unwrap();
     assert_eq!(rings.feed_vec(&[9, 8, 7, 6]), [0, 0, 7, 6]);
+    let mut talk = host.chain((host.create(Group::G2, Activity::new(2, [0, 3, 6], 0, 1).unwrap()).unwrap(),)).unwrap();
+    assert_eq!(talk.feed_vec(&[10, -10, 1000, -1000, 10, 10, 10, -10, -10, 10]), [0, 1, 1, 0, 0]);
+    assert!(host.create(Group::G2, Activity::new(1025, [0, 3, 6], 0, 1).unwrap()).is_err());
 }
 
 #[test]
@@ -192,4 +197,109 @@ fn moves_do_not_show() {
 #[test]
 fn versions_agree() {
     assert_eq!(version(), env!("CARGO_PKG_VERSION"));
+}
+
+#[test]
+fn kinds_that_are_known_late() {
+    let host = host();
+    let made = host.create_any(Group::G0, AnyParameters::named("gain", &[8192]).unwrap()).unwrap();
+    assert_eq!((made.name(), made.number(), made.get()), ("gain", 0, vec![8192]));
+    let average = AnyInstance::from(host.create(Group::G1, Fir::new(&[16384, 16384]).unwrap()).unwrap());
+    assert_eq!((average.name(), average.number()), ("fir", 1));
+    let mut line = host.chain(vec![made, average]).unwrap();
+    assert_eq!(line.feed_vec(&[1000, 1000]), [1000, 2000]);
+    assert_eq!(line.members()[0].set(&[4096]), Ok(()));
+    assert_eq!(line.members()[0].set(&[1, 2]), Err(Error::Command));
+    assert_eq!(line.members()[0].set(&[0; 73]), Err(Error::BadLength));
+    line.members()[1].reset();
+    assert_eq!(line.feed_vec(&[1000, 1000]), [500, 1000]);
+    let coder = host.create_any(Group::G2, G711::decoder(Law::Mu)).unwrap();
+    assert_eq!(coder.set(&[1]), Err(Error::Command));
+    drop((line, coder));
+    assert_eq!(host.map(Space::External), []);
+    assert_eq!(AnyParameters::named("iir", &[1]).unwrap_err(), Error::Kind);
+    assert_eq!(AnyParameters::named("fir", &[1; 73]).unwrap_err(), Error::Params);
+    assert_eq!(host.create_any(Group::G0, AnyParameters::named("biquad", &[1]).unwrap()).unwrap_err(), Error::Params);
+}
+
+#[test]
+fn every_kind_by_its_name() {
+    let host = host();
+    let all: [AnyParameters; 11] = [
+        Fir::new(&[1]).unwrap().any(),
+        Decim::new(2, &[1]).unwrap().any(),
+        Biquad::new([1, 2, 3, 4, 5]).any(),
+        Tone::new(1, 2, 3).unwrap().any(),
+        G711::encoder(Law::A).any(),
+        Gain::new(1).any(),
+        Level::new(2, 3).unwrap().any(),
+        Dtmf::a().any(),
+        Echo::new(2, 3, 4, 5).unwrap().any(),
+        Adpcm::encoder(Rate::K32).any(),
+        Signal::with([1, 2, 3, 4, 5, 6, 7]).any(),
+    ];
+    for one in all {
+        let named = AnyParameters::named(one.name(), one.words()).unwrap();
+        assert_eq!((named.name(), named.words()), (one.name(), one.words()));
+        assert_eq!(host.create_any(Group::G0, named).unwrap().name(), one.name());
+    }
+}
+
+#[test]
+fn owned_lines() {
+    let host = SharedHost::open(&Options { daram: 2112, channels: 2, ..Options::default() }).unwrap();
+    let mut first = host.line([(Group::G0, Gain::new(8192).any()), (Group::G0, Fir::new(&[16384, 16384]).unwrap().any())]).unwrap();
+    let mut second = host.line([(Group::G1, Gain::new(4096))]).unwrap();
+    assert_eq!((first.numbers(), second.numbers()), (&[0, 1][..], &[2][..]));
+    assert_eq!(host.line([(Group::G1, Gain::new(1))]).unwrap_err(), Error::Channels);
+    drop(second);
+    // Where a line is refused none of its instances is left.
+    let before = host.with(|host| host.map(Space::External));
+    assert_eq!(host.line([(Group::G1, Gain::new(1).any()), (Group::G2, Fir::new(&[1; 64]).unwrap().any())]).unwrap_err(), Error::Room(Space::Daram));
+    assert_eq!(host.line((0..9).map(|_| (Group::G1, Gain::new(1)))).unwrap_err(), Error::BadLength);
+    assert_eq!(host.line(Vec::<(Group, AnyParameters)>::new()).unwrap_err(), Error::BadLength);
+    assert_eq!(host.with(|host| host.map(Space::External)), before);
+    second = host.line([(Group::G1, Gain::new(4096))]).unwrap();
+    drop(host);
+    assert_eq!(first.feed_vec(&[1000, 1000]), [1000, 2000]);
+    assert_eq!(first.set(0, &[4096]), Ok(()));
+    assert_eq!(first.set(1, &[1]), Err(Error::Command));
+    first.reset(1);
+    assert_eq!(first.feed_one(1000), Some(500));
+    assert_eq!(first.get(0), [4096]);
+    let (mut out, other) = ([0; 3], std::thread::spawn(move || second.feed_vec(&[5, 6, 7])));
+    assert_eq!(first.feed(&[1000, 0, 0], &mut out), Ok(3));
+    assert_eq!(first.feed(&[1, 2, 3, 4], &mut out), Err(Error::BadLength));
+    assert_eq!((out, other.join().unwrap()), ([1000, 500, 0], vec![5, 6, 7]));
+    let host = first.host().clone();
+    drop(first);
+    assert_eq!(host.with(|host| host.map(Space::Daram)), []);
+}
+
+#[test]
+fn lines_in_threads() {
+    let host = SharedHost::open(&Options { poison: Some(21845), ..Options::default() }).unwrap();
+    let threads: Vec<_> = (0..16)
+        .map(|at: i16| {
+            let mut line = host.line([(Group::G0, Fir::new(&[16384, at]).unwrap())]).unwrap();
+            std::thread::spawn(move || (0..200).map(|_| line.feed_vec(&[2000, 1000])).last().unwrap())
+        })
+        .collect();
+    for moves in 0..200 {
+        host.with(|host| if moves % 2 == 0 { host.compact(Space::Saram) } else { u32::from(host.release(Group::G0)) });
+    }
+    for (at, one) in threads.into_iter().enumerate() {
+        let at = at as i32;
+        let wanted = [2000 * 16384 + 1000 * at, 1000 * 16384 + 2000 * at].map(|sum| ((sum + 16384) >> 15) as i16);
+        assert_eq!(one.join().unwrap(), wanted);
+    }
+    assert_eq!(host.with(|host| host.map(Space::Daram)), []);
+}
+
+#[test]
+fn a_panic_under_the_lock() {
+    let host = SharedHost::open(&Options::default()).unwrap();
+    let mut line = host.line([(Group::G0, Gain::new(4096))]).unwrap();
+    assert!(std::thread::spawn(move || host.with(|_| panic!("on purpose"))).join().is_err());
+    assert_eq!(line.feed_vec(&[7]), [7]);
 }

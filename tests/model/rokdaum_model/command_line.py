@@ -69,9 +69,12 @@ def arguments(words: Sequence[str]) -> Arguments:
     script, *ports = plain
     if not ports or len(ports) % 2 or len(ports) // 2 > PORTS_MAX:
         raise PortsError
+    def words_of(space: Space) -> int:
+        return given.get(space.name.lower(), SPACE_WORDS_MAX)
+
     poison = given.get("poison")
     return Arguments(
-        script, tuple(given.get(s.name.lower(), SPACE_WORDS_MAX) for s in Space),
+        script, (words_of(Space.DARAM), words_of(Space.SARAM), words_of(Space.EXTERNAL)),
         None if poison is None else extract_l(poison), list(zip(ports[::2], ports[1::2])),
         given.get("in8", 0), given.get("out8", 0))
 

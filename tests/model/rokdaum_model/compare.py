@@ -83,8 +83,8 @@ def differences(case: Case, result: Result) -> list[str]:
     found = []
     if result.status != case.status:
         found.append(f"status {result.status}, wanted {case.status}")
-    found.append(replies_differ(case, result.replies))
-    found += [output_differs(case, c, data) for c, data in enumerate(result.outputs)]
+    texts = [replies_differ(case, result.replies), *(output_differs(case, c, data) for c, data in enumerate(result.outputs))]
+    found += [text for text in texts if text]
     if result.stderr != case.stderr:
         found.append(f"standard error {result.stderr[:200]!r}, wanted {case.stderr!r}")
-    return [text for text in found if text]
+    return found

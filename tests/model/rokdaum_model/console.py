@@ -5,15 +5,15 @@ from __future__ import annotations
 
 import struct
 from dataclasses import dataclass, field
-from typing import Iterator, NamedTuple, Optional, Sequence
+from typing import Callable, Iterator, NamedTuple, Optional, Sequence
 
 from .machine import PORTS_MAX, UNSETTLED, Channels, Host
 from .memory import SPACE_WORDS_MAX, TALLY_MAX, valid_space
-from .ports import PortFault, TapeIn, TapeOut
+from .ports import In, Out, PortFault, TapeIn, TapeOut
 from .refusals import Refusal, Refused
 from .script import LINE_MAX, Command, Grammar
 from .sets import GATEWAY_SET, HOSTED, MIXED
-from .voices import UNKNOWN
+from .voices import Unknown
 
 SCRIPT_BYTES_MAX = 1_000_000_000
 SCRIPT_BUFFER = 4096
@@ -113,12 +113,13 @@ class Console:
             return f"ok {shown} {'*' if count is None else count}"
         if verb == "map":
             return " ".join(["ok"] + [f"{b.owner}@{b.place}+{b.size}" for b in host.map(*arguments)])
-        {"create": host.create, "delete": channels.delete, "chain": channels.chain,
-         "unchain": channels.unchain}[verb](*arguments)
+        silent: dict[str, Callable[..., None]] = {
+            "create": host.create, "delete": channels.delete, "chain": channels.chain, "unchain": channels.unchain}
+        silent[verb](*arguments)
         return "ok"
 
 
-def _get_all(port, wanted: int) -> bytes:
+def _get_all(port: In, wanted: int) -> bytes:
     """Bytes of an input, fewer only at its end."""
     got = b""
     while len(got) < wanted:
@@ -132,7 +133,7 @@ def _get_all(port, wanted: int) -> bytes:
     return got
 
 
-def _put_all(port, data: bytes) -> None:
+def _put_all(port: Out, data: bytes) -> None:
     while data:
         try:
             data = data[port.put(data):]
@@ -140,7 +141,7 @@ def _put_all(port, data: bytes) -> None:
             raise Fault("write") from None
 
 
-def script_lines(port, most: int = SCRIPT_BYTES_MAX) -> Iterator[bytes]:
+def script_lines(port: In, most: int = SCRIPT_BYTES_MAX) -> Iterator[bytes]:
     """The lines of a script as they come in, the unfinished last one at its end. Of a line that is too long only so much is
     kept that this is known."""
     pending, total = b"", 0
@@ -165,7 +166,7 @@ def script_lines(port, most: int = SCRIPT_BYTES_MAX) -> Iterator[bytes]:
 class Session:
     """A run line by line: each is served over the ports before the next."""
 
-    def __init__(self, config: Config, inputs: Sequence, outputs: Sequence, replies,
+    def __init__(self, config: Config, inputs: Sequence[In], outputs: Sequence[Out], replies: Out,
                  undetermined: Optional[Undetermined] = None):
         assert len(inputs) == len(outputs) and 1 <= len(inputs) <= PORTS_MAX
         self.console = Console(config, len(inputs))
@@ -199,7 +200,7 @@ class Session:
         if len(data) < wanted:
             raise Refused(Refusal.SHORT)
         block = console.channels.feed(c, console.samples(c, data))
-        if block is UNKNOWN:
+        if isinstance(block, Unknown):
             self._mark(c, self.written[c], None)
             return "ok *"
         width = console.width_out(c)
@@ -225,7 +226,7 @@ class Session:
             raise Fault("write") from None
 
 
-def run(config: Config, script, inputs: Sequence, outputs: Sequence, replies,
+def run(config: Config, script: In, inputs: Sequence[In], outputs: Sequence[Out], replies: Out,
         undetermined: Optional[Undetermined] = None) -> int:
     """Serves a script over ports; the number of refusals. Raises `Fault`."""
     session = Session(config, inputs, outputs, replies, undetermined)

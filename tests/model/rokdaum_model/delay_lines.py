@@ -9,7 +9,7 @@ from typing import Iterable, Sequence
 from .companding import decode, encode
 from .equations import biquad_step, tone_level, tone_step
 from .operators import WORD32_MAX, WORD32_MIN, l_mult, round_
-from .voices import Control, Voice
+from .voices import Block, Control, Sample, Voice, determined
 
 
 def fir_sums(coefficients: Sequence[int], line: Sequence[int], wanted: Iterable[int]) -> list[int]:
@@ -19,7 +19,7 @@ def fir_sums(coefficients: Sequence[int], line: Sequence[int], wanted: Iterable[
     a plain sum serves.
     """
     taps = len(coefficients)
-    if sum(map(abs, coefficients)) <= 32767:
+    if sum(abs(c) for c in coefficients) <= 32767:
         turned = coefficients[::-1]
         return [round_(2 * sum(map(mul, turned, line[n:n + taps]))) for n in wanted]
     out = []
@@ -43,13 +43,14 @@ class RunningFir(Voice):
         self.coefficients = parameters
         self.past = [0] * (len(parameters) - 1)
 
-    def process(self, block):
+    def process(self, block: Block) -> Block:
         """One output for each sample."""
-        line = self.past + block
-        self.past = line[len(block):]
-        return fir_sums(self.coefficients, line, range(len(block)))
+        samples = determined(block)
+        line = self.past + samples
+        self.past = line[len(samples):]
+        return fir_sums(self.coefficients, line, range(len(samples)))
 
-    def control(self, control: Control):
+    def control(self, control: Control) -> tuple[Sample, ...]:
         """Takes coefficients, clears the past, or gives the coefficients."""
         if control.verb == "get":
             return self.coefficients
@@ -67,15 +68,16 @@ class RunningDecim(Voice):
         self.every, self.coefficients = parameters[0], parameters[1:]
         self.past, self.phase = [0] * (len(parameters) - 2), 0
 
-    def process(self, block):
+    def process(self, block: Block) -> Block:
         """One output for every so many samples."""
-        line = self.past + block
-        self.past = line[len(block):]
+        samples = determined(block)
+        line = self.past + samples
+        self.past = line[len(samples):]
         first = self.every - 1 - self.phase
-        self.phase = (self.phase + len(block)) % self.every
-        return fir_sums(self.coefficients, line, range(first, len(block), self.every))
+        self.phase = (self.phase + len(samples)) % self.every
+        return fir_sums(self.coefficients, line, range(first, len(samples), self.every))
 
-    def control(self, control: Control):
+    def control(self, control: Control) -> tuple[Sample, ...]:
         """Clears the past, or gives the phase."""
         if control.verb == "get":
             return (self.phase,)
@@ -90,16 +92,16 @@ class RunningBiquad(Voice):
         self.coefficients = parameters
         self.x, self.y = (0, 0), (0, 0)
 
-    def process(self, block):
+    def process(self, block: Block) -> Block:
         """One output for each sample."""
         out = []
-        for x in block:
+        for x in determined(block):
             y = biquad_step(self.coefficients, (x, *self.x), self.y)
             self.x, self.y = (x, self.x[0]), (y, self.y[0])
             out.append(y)
         return out
 
-    def control(self, control: Control):
+    def control(self, control: Control) -> tuple[Sample, ...]:
         """Takes coefficients, clears the past, or gives the coefficients."""
         if control.verb == "get":
             return self.coefficients
@@ -117,10 +119,10 @@ class RunningTone(Voice):
         self.k, self.frame, self.shift = parameters
         self.count, self.v1, self.v2 = 0, 0, 0
 
-    def process(self, block):
+    def process(self, block: Block) -> Block:
         """A level for each frame that ends in the block."""
         out = []
-        for x in block:
+        for x in determined(block):
             v = tone_step(self.k, self.shift, x, self.v1, self.v2)
             self.v1, self.v2 = v, self.v1
             self.count += 1
@@ -129,7 +131,7 @@ class RunningTone(Voice):
                 self.count, self.v1, self.v2 = 0, 0, 0
         return out
 
-    def control(self, control: Control):
+    def control(self, control: Control) -> tuple[Sample, ...]:
         """Takes k, begins a new frame, or gives the samples in the frame."""
         if control.verb == "get":
             return (self.count,)
@@ -146,13 +148,13 @@ class RunningG711(Voice):
     def __init__(self, parameters: tuple[int, ...]):
         self.parameters = parameters
 
-    def process(self, block):
+    def process(self, block: Block) -> Block:
         """One code or one sample for each word."""
         law, decodes = self.parameters
         if decodes:
-            return [decode(law, x & 255) for x in block]
-        return [encode(law, x) for x in block]
+            return [decode(law, x & 255) for x in determined(block)]
+        return [encode(law, x) for x in determined(block)]
 
-    def control(self, control: Control):
+    def control(self, control: Control) -> tuple[Sample, ...]:
         """Gives the parameters; a reset has no effect."""
         return self.parameters if control.verb == "get" else ()

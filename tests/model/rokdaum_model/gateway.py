@@ -4,12 +4,12 @@
 from __future__ import annotations
 
 import math
-from typing import NamedTuple, Optional
+from typing import NamedTuple, Optional, Sequence
 
 from .kinds import Kind, Parameters
 from .memory import OBJECT, Attr, Record, Space
 from .operators import (add, extract_h, l_mac, l_msu, l_mult, l_shl, mult, norm_l, round_, shl, shr, sub)
-from .voices import History, Sample, Voice
+from .voices import Block, Control, History, Sample, Voice, determined
 
 RATE = 8000
 LOW_TONES, HIGH_TONES = (697, 770, 852, 941), (1209, 1336, 1477, 1633)
@@ -27,28 +27,28 @@ class Gain(Kind):
 
     name = "gain"
 
-    def table(self, p):
+    def table(self, p: Parameters) -> Optional[tuple[Record, ...]]:
         """The factor, and a scratch word, since a record has one at least."""
         return (OBJECT, Record(1, 4, Space.SARAM, Attr.PERSIST), Record(1, 4, Space.DARAM, Attr.SCRATCH)) if len(p) == 1 else None
 
-    def accepts(self, p, control):
+    def accepts(self, p: Parameters, control: Control) -> bool:
         """`set` takes a factor."""
         return len(control.words) == 1 if control.verb == "set" else True
 
-    def coefficients(self, p):
+    def coefficients(self, p: Parameters) -> Parameters:
         """The factor."""
         return p
 
-    def value(self, p, h, n):
+    def value(self, p: Parameters, h: History, n: int) -> Sample:
         """The product, rounded."""
         x = h.samples[n]
         return None if x is None else amplified(h.coefficients[n][0], x)
 
-    def status(self, p, h):
+    def status(self, p: Parameters, h: History) -> tuple[int, ...]:
         """The factor."""
         return h.coefficients_now
 
-    def running(self, p):
+    def running(self, p: Parameters) -> Voice:
         """A gain with its factor."""
         return RunningGain(p)
 
@@ -64,18 +64,18 @@ class Framed(Kind):
     status_counts = True
     words, frame_max, shift_max, state_words = 0, 0, 0, 0
 
-    def table(self, p):
+    def table(self, p: Parameters) -> Optional[tuple[Record, ...]]:
         """The parameters with the frame's state, and that state."""
         if len(p) != self.words or not 1 <= p[0] <= self.frame_max or not 0 <= p[1] <= self.shift_max:
             return None
         return (OBJECT, Record(self.words + self.state_words, 4, Space.SARAM, Attr.PERSIST),
                 Record(self.state_words, 4, Space.DARAM, Attr.SCRATCH))
 
-    def told(self, p: Parameters, samples: list[int]) -> int:
+    def told(self, p: Parameters, samples: Sequence[int]) -> int:
         """What is told of a frame, the oldest sample first."""
         raise NotImplementedError
 
-    def value(self, p, h, n):
+    def value(self, p: Parameters, h: History, n: int) -> Sample:
         """The sample: what is told goes over all samples of a frame."""
         return h.samples[n]
 
@@ -83,19 +83,19 @@ class Framed(Kind):
         """What is told, at the frame's last sample."""
         if h.since[n] % p[0] != p[0] - 1:
             return ()
-        frame = h.samples[n - p[0] + 1:n + 1]
-        return (None,) if None in frame else (self.told(p, frame),)
+        frame = [x for x in h.samples[n - p[0] + 1:n + 1] if x is not None]
+        return (None,) if len(frame) < p[0] else (self.told(p, frame),)
 
-    def status(self, p, h):
+    def status(self, p: Parameters, h: History) -> tuple[int, ...]:
         """The samples that the frame has so far."""
         return (h.since_now % p[0],)
 
-    def running(self, p):
+    def running(self, p: Parameters) -> Voice:
         """The form that goes on sample by sample."""
         return RunningFrame(self, p)
 
 
-def energy(shift: int, samples: list[int], start: int = 0) -> int:
+def energy(shift: int, samples: Sequence[int], start: int = 0) -> int:
     """The sum of the squares of shifted samples."""
     total = start
     for x in samples:
@@ -110,7 +110,7 @@ class Level(Framed):
     name = "level"
     words, frame_max, shift_max, state_words = 2, 1024, 15, 3
 
-    def told(self, p, samples):
+    def told(self, p: Parameters, samples: Sequence[int]) -> int:
         """The upper word of the energy."""
         return extract_h(energy(p[1], samples))
 
@@ -176,7 +176,7 @@ def code(p: Limits, total: int, levels: list[int]) -> int:
     return NO_DIGIT
 
 
-def tone_levels(shift: int, samples: list[int]) -> list[int]:
+def tone_levels(shift: int, samples: Sequence[int]) -> list[int]:
     """The levels of the eight tones over a frame."""
     found = []
     for factor in FACTORS:
@@ -193,7 +193,7 @@ class Dtmf(Framed):
     name = "dtmf"
     words, frame_max, shift_max, state_words = 7, 127, 14, 19
 
-    def told(self, p, samples):
+    def told(self, p: Parameters, samples: Sequence[int]) -> int:
         """The code of the digit, or -1."""
         return code(Limits(*p), energy(sub(p[1], 3), samples), tone_levels(p[1], samples))
 
@@ -204,11 +204,11 @@ class RunningGain(Voice):
     def __init__(self, parameters: tuple[int, ...]):
         self.factor = parameters
 
-    def process(self, block):
+    def process(self, block: Block) -> Block:
         """One output for each sample."""
-        return [amplified(self.factor[0], x) for x in block]
+        return [amplified(self.factor[0], x) for x in determined(block)]
 
-    def control(self, control):
+    def control(self, control: Control) -> tuple[Sample, ...]:
         """Takes a factor, or gives it; a reset has no effect."""
         if control.verb == "get":
             return self.factor
@@ -224,17 +224,17 @@ class RunningFrame(Voice):
         self.kind, self.parameters = kind, parameters
         self.frame: list[int] = []
 
-    def process(self, block):
+    def process(self, block: Block) -> Block:
         """What is told of each frame that ends in the block."""
         out = []
-        for x in block:
+        for x in determined(block):
             self.frame.append(x)
             if len(self.frame) == self.parameters[0]:
                 out.append(self.kind.told(self.parameters, self.frame))
                 self.frame = []
         return out
 
-    def control(self, control):
+    def control(self, control: Control) -> tuple[Sample, ...]:
         """Begins a new frame, or gives how many samples this one has."""
         if control.verb == "get":
             return (len(self.frame),)

@@ -6,7 +6,7 @@ from __future__ import annotations
 
 import random
 from dataclasses import replace
-from typing import Optional, Sequence
+from typing import Iterable, Optional, Sequence
 
 from . import memory
 from .console import serve
@@ -74,7 +74,7 @@ class PlacesByTrial:
     def __enter__(self) -> None:
         self.plain = memory.least_place
 
-        def both(space, words, align, taken):
+        def both(space: int, words: int, align: int, taken: Iterable[tuple[int, int]]) -> Optional[int]:
             ranges = list(taken)
             place = self.plain(space, words, align, ranges)
             if place != memory.least_place_by_trial(space, words, align, ranges):
@@ -83,7 +83,7 @@ class PlacesByTrial:
 
         memory.least_place = both
 
-    def __exit__(self, *_) -> None:
+    def __exit__(self, *_: object) -> None:
         memory.least_place = self.plain
 
 
@@ -114,7 +114,8 @@ def _check_moves_and_groups(rng: random.Random, case: RandomCase) -> list[str]:
 
 def check_case(rng: random.Random, case: RandomCase) -> list[str]:
     """What came out otherwise although it must not; nothing is said of a case with unlawful kinds."""
-    config, script, data, found = case.config, case.script, case.script.data(), []
+    config, script, data = case.config, case.script, case.script.data()
+    found: list[str] = []
     if config.mixed:
         return found
     with PlacesByTrial():

@@ -65,22 +65,22 @@ class Fir(Kind):
 
     name = "fir"
 
-    def table(self, p):
+    def table(self, p: Parameters) -> Optional[tuple[Record, ...]]:
         """The coefficients with the past samples, and a ring of past samples."""
         if not 1 <= len(p) <= TAPS_MAX:
             return None
         return (OBJECT, Record(2 * len(p) - 1, 4, Space.SARAM, Attr.PERSIST),
                 Record(len(p) - 1 + FEED_MAX, 16, Space.DARAM, Attr.SCRATCH))
 
-    def accepts(self, p, control):
+    def accepts(self, p: Parameters, control: Control) -> bool:
         """`set` takes as many coefficients as there are."""
         return len(control.words) == len(p) if control.verb == "set" else True
 
-    def coefficients(self, p):
+    def coefficients(self, p: Parameters) -> Parameters:
         """All parameters."""
         return p
 
-    def value(self, p, h, n):
+    def value(self, p: Parameters, h: History, n: int) -> Sample:
         """The sum in the order of its coefficients."""
         coefficients, total = h.coefficients[n], 0
         for k, c in enumerate(coefficients):
@@ -90,11 +90,11 @@ class Fir(Kind):
             total = l_mac(total, c, x)
         return round_(total)
 
-    def status(self, p, h):
+    def status(self, p: Parameters, h: History) -> tuple[int, ...]:
         """The coefficients."""
         return h.coefficients_now
 
-    def running(self, p):
+    def running(self, p: Parameters) -> Voice:
         """A filter with a delay line."""
         return RunningFir(p)
 
@@ -105,7 +105,7 @@ class Decim(Kind):
     name = "decim"
     status_counts = True
 
-    def table(self, p):
+    def table(self, p: Parameters) -> Optional[tuple[Record, ...]]:
         """The past samples with the phase, the constants, and a ring of past samples."""
         taps = len(p) - 1
         if not 1 <= taps <= TAPS_MAX or not 1 <= p[0] <= 16:
@@ -113,23 +113,23 @@ class Decim(Kind):
         return (OBJECT, Record(taps, 4, Space.SARAM, Attr.PERSIST), Record(taps + 1, 8, Space.EXTERNAL, Attr.WRITE_ONCE),
                 Record(taps - 1 + FEED_MAX, 16, Space.DARAM, Attr.SCRATCH))
 
-    def coefficients(self, p):
+    def coefficients(self, p: Parameters) -> Parameters:
         """The parameters without M."""
         return p[1:]
 
-    def value(self, p, h, n):
+    def value(self, p: Parameters, h: History, n: int) -> Sample:
         """The filter's value where one is given."""
         return FIR.value(p[1:], h, n) if h.since[n] % p[0] == p[0] - 1 else 0
 
-    def gives(self, p, h, n):
+    def gives(self, p: Parameters, h: History, n: int) -> tuple[Sample, ...]:
         """One output at the last of M samples."""
         return (h.values[n],) if h.since[n] % p[0] == p[0] - 1 else ()
 
-    def status(self, p, h):
+    def status(self, p: Parameters, h: History) -> tuple[int, ...]:
         """The phase."""
         return (h.since_now % p[0],)
 
-    def running(self, p):
+    def running(self, p: Parameters) -> Voice:
         """A decimator with a delay line."""
         return RunningDecim(p)
 
@@ -139,31 +139,33 @@ class Biquad(Kind):
 
     name = "biquad"
 
-    def table(self, p):
+    def table(self, p: Parameters) -> Optional[tuple[Record, ...]]:
         """The coefficients with the past, and the last samples and outputs."""
         if len(p) != 5:
             return None
         return (OBJECT, Record(9, 4, Space.SARAM, Attr.PERSIST), Record(4, 4, Space.DARAM, Attr.SCRATCH))
 
-    def accepts(self, p, control):
+    def accepts(self, p: Parameters, control: Control) -> bool:
         """`set` takes five coefficients."""
         return len(control.words) == 5 if control.verb == "set" else True
 
-    def coefficients(self, p):
+    def coefficients(self, p: Parameters) -> Parameters:
         """All parameters."""
         return p
 
-    def value(self, p, h, n):
+    def value(self, p: Parameters, h: History, n: int) -> Sample:
         """The section's output."""
-        x = tuple(h.past(n, k) for k in range(3))
-        y = (h.past_value(n, 1), h.past_value(n, 2))
-        return None if None in x + y else biquad_step(h.coefficients[n], x, y)
+        x0, x1, x2 = h.past(n, 0), h.past(n, 1), h.past(n, 2)
+        y1, y2 = h.past_value(n, 1), h.past_value(n, 2)
+        if x0 is None or x1 is None or x2 is None or y1 is None or y2 is None:
+            return None
+        return biquad_step(h.coefficients[n], (x0, x1, x2), (y1, y2))
 
-    def status(self, p, h):
+    def status(self, p: Parameters, h: History) -> tuple[int, ...]:
         """The coefficients."""
         return h.coefficients_now
 
-    def running(self, p):
+    def running(self, p: Parameters) -> Voice:
         """A section with its past."""
         return RunningBiquad(p)
 
@@ -174,17 +176,17 @@ class Tone(Kind):
     name = "tone"
     status_counts = True
 
-    def table(self, p):
+    def table(self, p: Parameters) -> Optional[tuple[Record, ...]]:
         """The parameters with the frame's state, and the last values."""
         if len(p) != 3 or not 1 <= p[1] <= 1024 or not 0 <= p[2] <= 15:
             return None
         return (OBJECT, Record(6, 4, Space.SARAM, Attr.PERSIST), Record(3, 4, Space.DARAM, Attr.SCRATCH))
 
-    def accepts(self, p, control):
+    def accepts(self, p: Parameters, control: Control) -> bool:
         """`set` takes k alone."""
         return len(control.words) == 1 if control.verb == "set" else True
 
-    def coefficients(self, p):
+    def coefficients(self, p: Parameters) -> Parameters:
         """k."""
         return p[:1]
 
@@ -193,23 +195,23 @@ class Tone(Kind):
         """The value k before sample n within its frame, else 0."""
         return h.values[n - k] if k <= h.since[n] % p[1] else 0
 
-    def value(self, p, h, n):
+    def value(self, p: Parameters, h: History, n: int) -> Sample:
         """The resonator's value."""
         x, v1, v2 = h.samples[n], self.back(p, h, n, 1), self.back(p, h, n, 2)
-        return None if None in (x, v1, v2) else tone_step(h.coefficients[n][0], p[2], x, v1, v2)
+        return None if x is None or v1 is None or v2 is None else tone_step(h.coefficients[n][0], p[2], x, v1, v2)
 
-    def gives(self, p, h, n):
+    def gives(self, p: Parameters, h: History, n: int) -> tuple[Sample, ...]:
         """The level at the frame's last sample."""
         if h.since[n] % p[1] != p[1] - 1:
             return ()
         v1, v2 = h.values[n], self.back(p, h, n, 1)
-        return (None,) if None in (v1, v2) else (tone_level(h.coefficients[n][0], v1, v2),)
+        return (None,) if v1 is None or v2 is None else (tone_level(h.coefficients[n][0], v1, v2),)
 
-    def status(self, p, h):
+    def status(self, p: Parameters, h: History) -> tuple[int, ...]:
         """The samples in the frame."""
         return (h.since_now % p[1],)
 
-    def running(self, p):
+    def running(self, p: Parameters) -> Voice:
         """A detector with the state of its frame."""
         return RunningTone(p)
 
@@ -219,24 +221,24 @@ class G711(Kind):
 
     name = "g711"
 
-    def table(self, p):
+    def table(self, p: Parameters) -> Optional[tuple[Record, ...]]:
         """A decoder has the samples of all codes."""
         if len(p) != 2 or p[0] not in (0, 1) or p[1] not in (0, 1):
             return None
         return (OBJECT, Record(256, 8, Space.EXTERNAL, Attr.WRITE_ONCE)) if p[1] else (OBJECT,)
 
-    def value(self, p, h, n):
+    def value(self, p: Parameters, h: History, n: int) -> Sample:
         """The code of a sample, or the sample of a code."""
         x = h.samples[n]
         if x is None:
             return None
         return decode(p[0], x & 255) if p[1] else encode(p[0], x)
 
-    def status(self, p, h):
+    def status(self, p: Parameters, h: History) -> tuple[int, ...]:
         """The law and the direction."""
         return p
 
-    def running(self, p):
+    def running(self, p: Parameters) -> Voice:
         """A coder without state."""
         return RunningG711(p)
 

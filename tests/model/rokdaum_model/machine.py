@@ -4,19 +4,22 @@
 from __future__ import annotations
 
 from dataclasses import dataclass, field
-from typing import NamedTuple, Optional, Sequence
+from typing import NamedTuple, Optional, Sequence, Union
 
 from .kinds import Kind
 from .memory import TALLY_MAX, Attr, Heap, Need, Piece, Record, Space, Spot, next_move, scratch_layout, valid_table
 from .refusals import Refusal, Refused
 from .rogues import ROGUES, RogueVoice
-from .voices import UNKNOWN, Block, Control, Voice
+from .voices import Block, Control, Sample, Unknown, Voice
 
 INSTANCES, GROUPS, MEMBERS_MAX, PORTS_MAX = 64, 8, 8, 16
 ACTIVATIONS_MAX = (1 << 32) - 1
 
 UNSETTLED = "unsettled"
 """Stands for a group's active member where that isn't determined."""
+
+Active = Union[int, str, None]
+"""A group's active member: an instance's number, None, or UNSETTLED."""
 
 
 @dataclass(eq=False)
@@ -41,7 +44,7 @@ class Group:
     def __init__(self) -> None:
         self.members: set[int] = set()
         self.blocks: dict[Space, Placing] = {}
-        self.active = None                       # a number, None or UNSETTLED
+        self.active: Active = None
         self.activations: Optional[int] = 0      # None where it isn't determined
         self.first_word: Optional[int] = None    # of the block in daram, where it is determined
 
@@ -77,7 +80,7 @@ class Instance:
 class Stat(NamedTuple):
     """A group's active member and the number of its activations."""
 
-    active: object
+    active: Active
     activations: Optional[int]
 
 
@@ -206,7 +209,7 @@ class Host:
         if instance.has_scratch() and instance.kind is not ROGUES["clinger"]:
             g.first_word = None   # private to the kind from here on
 
-    def control(self, i: int, control: Control) -> tuple:
+    def control(self, i: int, control: Control) -> tuple[Sample, ...]:
         """Gives a control to an instance; the words of its status."""
         if i >= INSTANCES:
             raise Refused(Refusal.RANGE)
@@ -220,7 +223,7 @@ class Host:
 
     def process(self, i: int, block: Block) -> Block:
         """The output of a block that isn't empty."""
-        self._touch(i, surely=block is not UNKNOWN)
+        self._touch(i, surely=not isinstance(block, Unknown))
         return self.instances[i].voice.process(block)
 
     def delete(self, i: int) -> None:
@@ -342,7 +345,7 @@ class Channels:
     def feed(self, c: int, block: Block) -> Block:
         """The output of the last member. An empty block goes to no further member."""
         for i in self.members[c]:
-            if block is not UNKNOWN and not block:
+            if not isinstance(block, Unknown) and not block:
                 break
             block = self.host.process(i, block)
         return block

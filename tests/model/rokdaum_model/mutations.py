@@ -19,6 +19,7 @@ KNOWN_VERBS = frozenset(verb.encode() for verb in VERBS)
 SCRIPT_MOST = 20000
 
 Script = bytes
+Feature = tuple[bytes, bytes, Optional[bytes]]
 Mutation = Callable[[random.Random, Script, Sequence[Script]], Script]
 
 
@@ -102,7 +103,7 @@ def mutate_config(rng: random.Random, config: Config) -> Config:
                   rng.randrange(4), config.kinds, config.form)
 
 
-def features(script: Script, served: Served) -> frozenset[tuple[bytes, bytes, Optional[bytes]]]:
+def features(script: Script, served: Served) -> frozenset[Feature]:
     """What a run showed: of each line its verb, the sort of its reply, and the verb of the line before."""
     found, before = set(), None
     for line, reply in zip(filter(is_answered, script.split(b"\n")), served.replies.split(b"\n")):
@@ -118,7 +119,7 @@ class Corpus:
 
     def __init__(self, scripts: Sequence[tuple[Config, Script, list[bytes]]]):
         self.runs = list(scripts)
-        self.seen: set = set()
+        self.seen: set[Feature] = set()
         for config, script, inputs in self.runs:
             self.seen |= features(script, serve(config, script, inputs))
 

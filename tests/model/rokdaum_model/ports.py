@@ -4,11 +4,28 @@
 from __future__ import annotations
 
 import os
-from typing import Optional
+from typing import Optional, Protocol
 
 
 class PortFault(Exception):
     """A device has failed."""
+
+
+class In(Protocol):
+    """What a run reads from."""
+
+    def get(self, n: int) -> bytes:
+        """Up to n bytes, none at the end. Raises `PortFault`."""
+
+
+class Out(Protocol):
+    """What a run writes to."""
+
+    def put(self, data: bytes) -> int:
+        """Takes some of the bytes; how many. Raises `PortFault`."""
+
+    def flush(self) -> None:
+        """Passes on what waits. Raises `PortFault`."""
 
 
 class TapeIn:

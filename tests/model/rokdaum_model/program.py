@@ -51,7 +51,7 @@ class Started:
     """A run that was started."""
 
     case: Case
-    process: subprocess.Popen
+    process: subprocess.Popen[bytes]
     files: tuple[IO[bytes], IO[bytes]]
 
 
@@ -104,7 +104,7 @@ class Slot:
                       [out.read_bytes() if out.exists() else None for out in outs])
 
 
-def temporary_folder() -> tempfile.TemporaryDirectory:
+def temporary_folder() -> tempfile.TemporaryDirectory[str]:
     """A folder for a whole command, in memory where there is such, which goes with it."""
     return tempfile.TemporaryDirectory(prefix="rokdaum-", dir=memory_folder())
 
@@ -119,5 +119,5 @@ class Slots:
     def __enter__(self) -> Sequence[Slot]:
         return self.slots
 
-    def __exit__(self, *_) -> None:
+    def __exit__(self, *_: object) -> None:
         shutil.rmtree(self.top, ignore_errors=True)

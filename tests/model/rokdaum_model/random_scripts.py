@@ -9,7 +9,7 @@ from __future__ import annotations
 
 import random
 from dataclasses import dataclass
-from typing import Callable, Optional
+from typing import Callable, Optional, TypeVar, Union
 
 from .console import Config, Served, Session, Undetermined
 from .gateway import GATEWAY
@@ -24,6 +24,7 @@ from .sets import HOSTED
 ODD_WORDS = (b"+1", b"1_0", b"0x10", b"1.0", b"--1", b"-", b"1-", b"9" * 40, b"-32769", b"32768", b"256", b"-1", b"\xc2\xb2",
              b"\xd9\xa3", b"1\0", b"\0", b"1\x0b2", b"\x0c", b"1\r", b"\xff", b"1e3", b"set", b"fir", b"daram", b"-0",
              b"00000255")
+Drawn = TypeVar("Drawn")
 BLANKS = (" ", "  ", "\t", " \t ", "\t\t", "     ")
 
 
@@ -72,7 +73,7 @@ class Writer:
         self.broken_share = rng.choice((0.0, 0.02, 0.08, 0.25))
         self.odd_share = rng.choice((0.0, 0.05, 0.3))
         self.queue: list[bytes] = []                       # lines that come next
-        self.earlier: dict[int, tuple[str, list]] = {}     # what a number was before
+        self.earlier: dict[int, tuple[str, list[int]]] = {}   # what a number was before
 
     # Words of lines
 
@@ -85,7 +86,7 @@ class Writer:
         zeros = "0" * self.rng.choice((1, 1, 2, 30))
         return ("-" if value < 0 else "") + zeros + str(abs(value))
 
-    def join(self, *words) -> bytes:
+    def join(self, *words: Union[str, int]) -> bytes:
         """A line of words and numbers, now and then with odd blanks."""
         texts = [w if isinstance(w, str) else self.number(w) for w in words]
         if self.rng.random() >= self.odd_share:
@@ -95,7 +96,7 @@ class Writer:
             line = self.rng.choice(BLANKS) + line
         return (line.rstrip(" \t") if self.rng.random() < 0.5 else line).encode()
 
-    def mostly(self, good, bad, share: float = 0.06):
+    def mostly(self, good: Drawn, bad: Drawn, share: float = 0.06) -> Drawn:
         """The first, now and then the second."""
         return bad if self.rng.random() < share else good
 
@@ -158,13 +159,17 @@ class Writer:
         return head + rng.choice(([91, 2920, 7336, 5827, 22938], [0, 0, 0, 32767, 0], self.coefficients(5)))
 
     def stateful_parameters(self, kind: str) -> list[int]:
-        """Parameters of an echo canceller, an ADPCM coder or a generator of tones."""
+        """Parameters of an echo canceller, an ADPCM coder, a generator of tones or a detector of voice activity."""
         rng = self.rng
         if kind == "echo":
             taps = self.mostly(rng.choice((1, 2, 3, 5, 8, 16, 33, 128, 256)), rng.choice((0, 257, -1)), 0.04)
             return [taps] + rng.choice(([8192, 16384, 240], [8192, 0, 3], [32767, 32767, 0], self.coefficients(3)))
         if kind == "adpcm":
             return [self.mostly(rng.choice((16, 24, 32, 40)), rng.choice((0, 8, 64, -16)), 0.04), self.mostly(rng.randint(0, 1), rng.choice((2, -1)), 0.04)]
+        if kind == "activity":
+            frame = self.mostly(rng.choice((1, 2, 3, 5, 8, 20, 80, 160, 1024)), rng.choice((0, 1025, -1)), 0.04)
+            bits = [self.mostly(rng.choice((0, 0, 1, 3, 6, 15)), rng.choice((16, -1)), 0.02) for _ in range(3)]
+            return [frame, *bits, self.mostly(rng.choice((0, 0, 1, 320, 32767)), -1, 0.02), self.mostly(rng.choice((0, 1, 2, 5, 32767)), -1, 0.02)]
         tones = rng.choice(([26956, 4660, 16325, 7102], [27980, 3000, 0, 0], self.coefficients(4)))
         return tones + [rng.choice((0, 1, 3, 8, 40, 400, 32767)), rng.choice((0, 1, 2, 8, 60, 32767, -3)), rng.choice((0, 0, 1, 2, 5, -1))]
 
@@ -208,7 +213,8 @@ class Writer:
         if self.rng.random() < 0.04:
             group = self.rng.choice((8, 9, 255))
             i = self.rng.choice(list(self.host.instances) or [64])
-            parameters = self.rng.choice(([], parameters))
+            none: list[int] = []
+            parameters = self.rng.choice((none, parameters))
         return self.join("create", i, kind, group, *parameters)
 
     def chain(self) -> bytes:

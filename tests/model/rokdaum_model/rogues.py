@@ -5,9 +5,9 @@ from __future__ import annotations
 
 from typing import TYPE_CHECKING, Optional
 
-from .kinds import Kind
+from .kinds import Kind, Parameters
 from .memory import OBJECT, Attr, Record, Space
-from .voices import UNKNOWN, Block, Voice
+from .voices import UNKNOWN, Block, Control, Sample, Voice, Unknown
 
 if TYPE_CHECKING:
     from .machine import Group
@@ -19,17 +19,17 @@ class Rogue(Kind):
     def __init__(self, name: str):
         self.name = name
 
-    def table(self, p):
+    def table(self, p: Parameters) -> Optional[tuple[Record, ...]]:
         """The same records for each of them."""
         if p:
             return None
         return (OBJECT, Record(8, 4, Space.SARAM, Attr.PERSIST), Record(260, 16, Space.DARAM, Attr.SCRATCH))
 
-    def accepts(self, p, control):
+    def accepts(self, p: Parameters, control: Control) -> bool:
         """Everything."""
         return True
 
-    def start(self, p, form):
+    def start(self, p: Parameters, form: str) -> Voice:
         """A new instance."""
         return RogueVoice(self.name)
 
@@ -48,14 +48,15 @@ class RogueVoice(Voice):
             return block
         if self.name != "clinger":
             return UNKNOWN
-        if block is UNKNOWN:
+        assert self.group
+        if isinstance(block, Unknown):
             self.group.first_word = None
             return UNKNOWN
-        given = [self.group.first_word] + block[:-1]
+        given = [self.group.first_word, *block[:-1]]
         self.group.first_word = block[-1]
         return given
 
-    def control(self, control):
+    def control(self, control: Control) -> tuple[Sample, ...]:
         """Done."""
         return ()
 

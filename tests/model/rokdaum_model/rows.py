@@ -13,7 +13,7 @@ import json
 import struct
 from dataclasses import replace
 from pathlib import Path
-from typing import Optional
+from typing import Any, Optional
 
 from .cases import Case, expected_case
 from .compare import Result, differences
@@ -21,16 +21,18 @@ from .console import Config, Console
 from .refusals import Refused
 from .sets import HOSTED, MIXED
 
+# A row of rows.json, as the documentation above says.
+Row = dict[str, Any]
 ROWS = Path(__file__).parent / "rows.json"
 POISON = 21845
 
 
-def read_rows() -> list[dict]:
+def read_rows() -> list[Row]:
     """All rows."""
     return json.loads(ROWS.read_text())
 
 
-def data_of(spec: dict) -> bytes:
+def data_of(spec: Row) -> bytes:
     """The bytes of an input or output."""
     if "bytes" in spec:
         return bytes.fromhex(spec["bytes"])
@@ -38,30 +40,30 @@ def data_of(spec: dict) -> bytes:
     return struct.pack("<%dh" % len(samples), *samples)
 
 
-def script_of(row: dict) -> bytes:
+def script_of(row: Row) -> bytes:
     """The bytes of the script."""
     if "raw_script" in row:
         return row["raw_script"].encode("latin-1")
     return "".join(line + "\n" for line in row["script"]).encode("latin-1")
 
 
-def inputs_of(row: dict) -> list[bytes]:
+def inputs_of(row: Row) -> list[bytes]:
     """The bytes of the inputs."""
     return [data_of(spec) for spec in row["inputs"]]
 
 
-def config_of(row: dict, form: str = "history") -> Config:
+def config_of(row: Row, form: str = "history") -> Config:
     """The configuration."""
     return Config(kinds=row.get("kinds", HOSTED), form=form, **row.get("options", {}))
 
 
-def configs_of(row: dict, form: str = "history") -> list[Config]:
+def configs_of(row: Row, form: str = "history") -> list[Config]:
     """The configuration, and with each poison word under which the row gives the same."""
     config = config_of(row, form)
     return [config] + [replace(config, poison=poison) for poison in row.get("poisons", ())]
 
 
-def replies_of(row: dict, modelled: list[str]) -> list[str]:
+def replies_of(row: Row, modelled: list[str]) -> list[str]:
     """The replies: the model's where the row says nothing."""
     found = modelled
     if "replies" in row:
@@ -69,23 +71,25 @@ def replies_of(row: dict, modelled: list[str]) -> list[str]:
     return found[:-1] + [row["last_reply"]] if "last_reply" in row else found
 
 
-def said_outputs(row: dict) -> dict[int, bytes]:
+def said_outputs(row: Row) -> dict[int, bytes]:
     """The outputs that the row says, by their channels."""
     return {c: data_of(spec) for c, spec in enumerate(row.get("outputs", ())) if spec is not None}
 
 
-def result_of(row: dict, case: Case) -> Result:
+def result_of(row: Row, case: Case) -> Result:
     """What the row says of a run, and the model where it says nothing."""
     replies = "".join(reply + "\n" for reply in replies_of(row, case.replies.decode().splitlines())).encode()
-    outputs = [said_outputs(row).get(c, modelled) for c, modelled in enumerate(case.outputs)]
+    outputs: list[Optional[bytes]] = [said_outputs(row).get(c, modelled) for c, modelled in enumerate(case.outputs)]
     return Result(row.get("status", case.status), replies, case.stderr, outputs)
 
 
-def wrong_inside(row: dict) -> list[str]:
+def wrong_inside(row: Row) -> list[str]:
     """What of the words that were moved and of the space that was lacking isn't as the row says."""
     console, lacking = Console(config_of(row), len(row["inputs"])), None
     for line in script_of(row).splitlines():
         command = console.grammar.parse(line)
+        if command is None:
+            continue
         try:
             if command.verb == "feed":
                 console.channels.feed(command.arguments[0], [0] * command.arguments[1])
@@ -101,7 +105,7 @@ def wrong_inside(row: dict) -> list[str]:
     return found
 
 
-def check_row(row: dict) -> list[str]:
+def check_row(row: Row) -> list[str]:
     """What of the model's result isn't as the row says, by histories and with delay lines."""
     found = []
     for form in ("history", "running"):
@@ -113,7 +117,7 @@ def check_row(row: dict) -> list[str]:
     return found
 
 
-def row_case(row: dict, poison: Optional[int] = None) -> Case:
+def row_case(row: Row, poison: Optional[int] = None) -> Case:
     """The case of a row. What it doesn't say is filled in from the model, of which the outputs of some rogues aren't determined."""
     config = config_of(row)
     note = row["name"]

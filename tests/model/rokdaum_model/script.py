@@ -4,9 +4,9 @@
 from __future__ import annotations
 
 import re
-from typing import NamedTuple, Optional, Sequence
+from typing import Any, NamedTuple, Optional, Sequence
 
-from .kinds import FEED_MAX
+from .kinds import FEED_MAX, Kind
 from .machine import MEMBERS_MAX
 from .memory import Space
 from .operators import WORD16_MAX, WORD16_MIN
@@ -24,7 +24,7 @@ class Command(NamedTuple):
     """A line that fits the grammar."""
 
     verb: str
-    arguments: tuple
+    arguments: tuple[Any, ...]   # their types go by the verb
 
 
 def words_of(line: bytes) -> list[bytes]:
@@ -75,24 +75,24 @@ class Grammar:
         _shape(verb in VERBS)
         return Command(verb, getattr(self, "_" + verb)(words[1:]))
 
-    def _create(self, words):
+    def _create(self, words: Sequence[bytes]) -> tuple[int, Kind, int, tuple[int, ...]]:
         _shape(len(words) >= 3 and words[1] in self.kinds)
-        i, group, *parameters = _numbers([words[0]] + words[2:])
+        i, group, *parameters = _numbers([words[0], *words[2:]])
         _within(0, 255, i, group)
         _check_parameters(parameters)
         return i, self.kinds[words[1]], group, tuple(parameters)
 
     @staticmethod
-    def _control(words):
+    def _control(words: Sequence[bytes]) -> tuple[int, Control]:
         _shape(len(words) >= 2 and words[1] in (b"set", b"reset", b"get"))
         _shape(words[1] == b"set" or len(words) == 2)
-        i, *parameters = _numbers([words[0]] + words[2:])
+        i, *parameters = _numbers([words[0], *words[2:]])
         _within(0, 255, i)
         _check_parameters(parameters)
         return i, Control(words[1].decode(), tuple(parameters))
 
     @staticmethod
-    def _chain(words):
+    def _chain(words: Sequence[bytes]) -> tuple[int, tuple[int, ...]]:
         _shape(len(words) >= 2)
         c, *members = _numbers(words)
         _within(0, 255, c, *members)
@@ -101,7 +101,7 @@ class Grammar:
         return c, tuple(members)
 
     @staticmethod
-    def _feed(words):
+    def _feed(words: Sequence[bytes]) -> tuple[int, int]:
         _shape(len(words) == 2)
         c, n = _numbers(words)
         _within(0, 255, c)
@@ -109,7 +109,7 @@ class Grammar:
         return c, n
 
     @staticmethod
-    def _one_number(words):
+    def _one_number(words: Sequence[bytes]) -> tuple[int]:
         _shape(len(words) == 1)
         number, = _numbers(words)
         _within(0, 255, number)
@@ -118,7 +118,7 @@ class Grammar:
     _delete = _unchain = _release = _stat = _one_number
 
     @staticmethod
-    def _one_space(words):
+    def _one_space(words: Sequence[bytes]) -> tuple[Space]:
         _shape(len(words) == 1 and words[0] in SPACES)
         return (SPACES[words[0]],)
 

@@ -3,7 +3,7 @@
 
 from __future__ import annotations
 
-from typing import TYPE_CHECKING, NamedTuple, Union
+from typing import TYPE_CHECKING, NamedTuple, Sequence, Union
 
 if TYPE_CHECKING:
     from .kinds import Kind
@@ -18,16 +18,24 @@ class Control(NamedTuple):
     words: tuple[int, ...] = ()
 
 
-class _Unknown:
+class Unknown:
     """A block of which neither the samples nor their number are determined."""
 
     def __repr__(self) -> str:
         return "UNKNOWN"
 
 
-UNKNOWN = _Unknown()
+UNKNOWN = Unknown()
 
-Block = Union[list, _Unknown]
+Block = Union[Sequence[Sample], Unknown]
+
+
+def determined(block: Block) -> list[int]:
+    """The samples of a block, of which each is determined: so it is in every run without unlawful kinds."""
+    assert not isinstance(block, Unknown)
+    samples = [x for x in block if x is not None]
+    assert len(samples) == len(block)
+    return samples
 
 
 class Voice:
@@ -50,7 +58,7 @@ class History:
         self.since_now = 0                      # samples since the start or the last reset
         self.samples: list[Sample] = []
         self.since: list[int] = []              # of each sample: how many lie between it and the last reset
-        self.coefficients: list[tuple] = []     # of each sample: the coefficients in force
+        self.coefficients: list[tuple[int, ...]] = []     # of each sample: the coefficients in force
         self.values: list[Sample] = []          # of each sample: the value of the definition
 
     def sample(self, x: Sample) -> int:
@@ -80,10 +88,11 @@ class HistoryVoice(Voice):
 
     def process(self, block: Block) -> Block:
         """The values of the definition at the block's samples."""
-        if isinstance(block, _Unknown) or self.adrift:
+        if isinstance(block, Unknown) or self.adrift:
             self.adrift = True
             return UNKNOWN
-        kind, parameters, history, out = self.kind, self.parameters, self.history, []
+        kind, parameters, history = self.kind, self.parameters, self.history
+        out: list[Sample] = []
         for x in block:
             n = history.sample(x)
             history.values.append(kind.value(parameters, history, n))

@@ -63,8 +63,10 @@ class CommandLines(unittest.TestCase):
             self.assertEqual(config_of(arguments(option_words(config) + ["s", "a", "b"])), config)
 
     def test_what_is_refused(self) -> None:
-        for words in (["--poison", "65536", "s", "a", "b"], ["--flute", "s"], [], ["-x"], ["--daram"], ["--daram", "-1", "s"],
-                      ["--in8", "1", "--in8", "1", "s", "a", "b"]):
+        refused: tuple[list[str], ...] = (
+            ["--poison", "65536", "s", "a", "b"], ["--flute", "s"], [], ["-x"], ["--daram"], ["--daram", "-1", "s"],
+            ["--in8", "1", "--in8", "1", "s", "a", "b"])
+        for words in refused:
             with self.assertRaises(UsageError):
                 arguments(words)
         for words in (["s"], ["s", "a"], ["s"] + ["a", "b"] * 17):

@@ -5,16 +5,19 @@ from __future__ import annotations
 
 import unittest
 from dataclasses import replace
+from typing import Any, Optional
 
 from rokdaum_model.console import Config, Fault, run, serve
 from rokdaum_model.order import REPLIES, is_one_prefix, order_of, tells_truth
 from rokdaum_model.ports import TapeIn, TapeOut
-from rokdaum_model.rows import POISON, check_row, config_of, inputs_of, read_rows, row_case, script_of
+from rokdaum_model.rows import POISON, Row, check_row, config_of, inputs_of, read_rows, row_case, script_of
 
+# How a port is limited: `step`, `fuse` and `ends` of TapeIn and TapeOut.
+Limits = Optional[dict[str, Any]]
 FIRST = b"create 0 fir 0 16384\nchain 0 0\nfeed 0 2\n"
 
 
-def named(name: str) -> dict:
+def named(name: str) -> Row:
     """The row of a name."""
     return next(row for row in read_rows() if row["name"] == name)
 
@@ -45,12 +48,15 @@ class Rows(unittest.TestCase):
 
     def test_a_row_that_is_wrong_is_found(self) -> None:
         row = named("half of two samples")
-        for wrong in ({"replies": ["ok", "ok", "ok 3"]}, {"outputs": [{"samples": [1, 1]}]}, {"status": 1},
-                      {"last_reply": "ok"}, {"copied": 1}, {"lacking": "daram"}):
+        wrongs: tuple[Row, ...] = (
+            {"replies": ["ok", "ok", "ok 3"]}, {"outputs": [{"samples": [1, 1]}]}, {"status": 1}, {"last_reply": "ok"}, {"copied": 1},
+            {"lacking": "daram"})
+        for wrong in wrongs:
             self.assertNotEqual(check_row({**row, **wrong}), [])
 
 
-def run_over(script: TapeIn, inputs: list[TapeIn], outputs: list[TapeOut], replies: TapeOut, config: Config = Config()):
+def run_over(script: TapeIn, inputs: list[TapeIn], outputs: list[TapeOut], replies: TapeOut,
+             config: Config = Config()) -> Optional[str]:
     """A run over ports; the cause of its fault, if there is one."""
     try:
         run(config, script, inputs, outputs, replies)
@@ -62,7 +68,7 @@ def run_over(script: TapeIn, inputs: list[TapeIn], outputs: list[TapeOut], repli
 class Ports(unittest.TestCase):
     """Ports that give little or fail."""
 
-    def first(self, script=None, in_port=None, out_port=None):
+    def first(self, script: Limits = None, in_port: Limits = None, out_port: Limits = None) -> tuple[Optional[str], bytes, bytes]:
         """The first row's run; the fault, the replies and the output."""
         out, replies = TapeOut(**(out_port or {})), TapeOut()
         fault = run_over(TapeIn(FIRST, **(script or {})), [TapeIn(b"\1\0\xff\xff", **(in_port or {}))], [out], replies)
@@ -96,9 +102,10 @@ class Ports(unittest.TestCase):
         script, inputs = script_of(row), inputs_of(row)
         order = order_of(config_of(row), TapeIn(script), [TapeIn(data) for data in inputs])
         for port in ("script", "in0", "in1", "out0", "out1", "replies"):
-            fuse, fault = 0, "some"
+            fuse = 0
+            fault: Optional[str] = "some"
             while fault is not None:
-                def told(name: str) -> dict:
+                def told(name: str) -> dict[str, Any]:
                     return {"step": 1, "fuse": fuse} if name == port else {}
                 outs = [TapeOut(**told("out0")), TapeOut(**told("out1"))]
                 replies = TapeOut(**told("replies"))

@@ -12,3 +12,6 @@ returns-in-9 c = search rules
 
 pub returns-in-10 : goal.returns-in-10
 returns-in-10 c = search rules
+
+pub returns-in-11 : goal.returns-in-11
+returns-in-11 c = search rules

@@ -5,7 +5,7 @@ use Rattle.lifecycle.specs.States.{SameOnce}
 use Rattle.mem_rec.specs.declared.TheConstants.{GROUPS, INSTANCES}
 use Rattle.host_shared.specs.Owners.{AllHaveOwners, SameLocations}
 use Rattle.host_shared.specs.Sharing.{left_with}
-use Rattle.host_table.specs.Table.{slot_at, group_of, instance_of, AreHeld, AreBare}
+use Rattle.host_table.specs.Table.{slot_at, group_at, group_of, instance_of, AreHeld, AreBare}
 use Rattle.host_shared.specs.Locations.{shared_at}
 use Rattle.host_table.proofs.Changes.{slot_in, owners_of_slot, read_ok_group, fits_in_slot, own_stays, pieces_then, locations_then}
 use Rattle.host_table.proofs.Stepping.{steps_in, there_in}
@@ -20,12 +20,6 @@ use Rattle.host_table.proofs.life.end.Goals as goal
 use Rattle.host_table.proofs.life.end.Goals.{After-hand_on}
 use Rattle.host_table.proofs.life.end.Given.{Over}
 
-pub index-requires : goal.index-requires
-index-requires g c =
-    let ok = (steps_in c.tables.view_is c.deactivate.ensures.step).ok in let there = (there_in c.tables.view_is c.deactivate.ensures.step c.args.i c.requires.living) in
-    let inside = ok.group_range c.args.i there.0 there.1 in let is = (rw (← c.tables.view_is) at c.group_number-g.ensures) ∙ ap group_of there.1 in
-    omega (arith, inside, is, ok.group_count)
-
 pub end_idle-own-requires-clause-living : goal.end_idle-own-requires-clause-living
 end_idle-own-requires-clause-living g c = let there = (there_in c.tables.view_is c.deactivate.ensures.step c.args.i c.requires.living) in rw there.1 refl
 
@@ -34,14 +28,14 @@ end_idle-own-requires-clause-idle g c = rw (← c.tables.view_is) at c.deactivat
 
 pub end_idle-own-requires-clause-lent : goal.end_idle-own-requires-clause-lent
 end_idle-own-requires-clause-lent g c m at =
-    let ok = (steps_in c.tables.view_is c.deactivate.ensures.step).ok in let i_in = slot_in c.tables.inside.instances.items c.args.i m at in
-    let of_group : m.group ≡ c.group_number-g.result = sym ((rw (← c.tables.view_is) at c.group_number-g.ensures) ∙ ap group_of at) in
-    let below : c.group_number-g.result < GROUPS = subst (λ n. n < GROUPS) of_group (ok.group_range c.args.i m at) in
-    record {
-      number = omega (arith, i_in, ok.slot_count, ok.sharing_count);
-      owners = owners_of_slot _ _ _ ok _ m at;
-      fits = fits_in_slot _ ok at refl of_group refl (read_ok_group _ _ _ ok _ below _ c.index.ensures);
-    }
+    let ok = (steps_in c.tables.view_is c.deactivate.ensures.step).ok in let i_in = slot_in c.tables.inside.instances.items c.args.i m at in (
+      group_at c.tables.inside.groups.items m.group,
+      record {
+        number = omega (arith, i_in, ok.slot_count, ok.sharing_count);
+        owners = owners_of_slot _ _ _ ok _ m at;
+        fits = fits_in_slot _ ok at refl refl refl refl;
+      },
+    )
 
 pub hand_on-requires-clause-count : goal.hand_on-requires-clause-count
 hand_on-requires-clause-count g c =

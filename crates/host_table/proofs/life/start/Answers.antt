@@ -8,7 +8,7 @@ use Rattle.scratch_group.proofs.Tables.{unplaced-with_bases}
 use Rattle.record_loans.specs.Pieces.{piece_at, SamePieces}
 use Rattle.host_shared.specs.Owners.{with_pieces_of}
 use Rattle.host_table.specs.Table.{IsHoused, EachIsHoused, group_at, instance_of, active_in, slot_active_in}
-use Rattle.host_table.specs.Turns.{HasBegun}
+use Rattle.lifecycle.specs.Turns.{HasBegun}
 use Rattle.host_shared.specs.Locations.{shared_at}
 use Rattle.host_shared.specs.Joining.{sharer_at, pieces_joined, CanJoin}
 use Rattle.host_table.proofs.Housing.{settled_stays}

@@ -1,6 +1,6 @@
 use Rattle.std.proofs.Common.{Some, lit≤}
-use Rattle.lifecycle.proofs.Frames.{fits_beside}
-use Rattle.test_lives.proofs.Housing.{owner, ready_group, all_gone, all_same, same_group_then, same_pieces_then, same_block_span, still_whole}
+use Rattle.mem_rec.specs.declared.Space.TheVariants.{Daram}
+use Rattle.test_lives.proofs.Housing.{owner, ready_group, all_gone, all_same, same_blocks_then, same_pieces_then, lent_beside, same_block_span, still_whole}
 use Rattle.test_lives.proofs.neighbour_tests.members_take_turns.Goals as goal
 
 pub filter-first-requires-clause-object : goal.filter-first-requires-clause-object
@@ -25,17 +25,14 @@ filter-second-requires-clause-ready g c =
     ready_group c.new-group.result c.replace.new.self c.region-daram.result.1 c.new-group.ensures.blocks c.replace.ensures.new c.replace.ensures.others
     (owner 1028 c.region-daram.result.1 c.region-daram.result.0 (lit≤ tt) c.region-daram.ensures.size (c.region-daram.ensures.region, c.region-daram.ensures.whole))
 
-pub give-second_once-requires-clause-fits : goal.give-second_once-requires-clause-fits
-give-second_once-requires-clause-fits g c =
-    fits_beside _ _ _ c.replace.new.self c.give-first_once.new.group c.give-first_once.ensures.group c.filter-second.ensures.fits
+pub give-second_once-requires-clause-lent : goal.give-second_once-requires-clause-lent
+give-second_once-requires-clause-lent g c = lent_beside c.filter-second.ensures.lent c.give-first_once.ensures.blocks
 
 pub control-first_asked-requires : goal.control-first_asked-requires
-control-first_asked-requires g c = record { fits = fits_beside _ _ _ c.give-first_once.new.group c.give-second_once.new.group c.give-second_once.ensures.group c.give-first_once.ensures.fits }
+control-first_asked-requires g c = record { lent = lent_beside c.give-first_once.ensures.lent c.give-second_once.ensures.blocks }
 
-pub give-second_twice-requires-clause-fits : goal.give-second_twice-requires-clause-fits
-give-second_twice-requires-clause-fits g c =
-    fits_beside _ _ _ c.give-second_once.new.group c.give-first_twice.new.group
-    (same_group_then _ _ _ c.control-first_asked.ensures.group c.give-first_twice.ensures.group) c.give-second_once.ensures.fits
+pub give-second_twice-requires-clause-lent : goal.give-second_twice-requires-clause-lent
+give-second_twice-requires-clause-lent g c = lent_beside c.give-second_once.ensures.lent (same_blocks_then c.give-second_once.new.group c.control-first_asked.new.group c.give-first_twice.new.group c.control-first_asked.ensures.blocks c.give-first_twice.ensures.blocks)
 
 pub end_filter-told-requires-clause-object : goal.end_filter-told-requires-clause-object
 end_filter-told-requires-clause-object g c =
@@ -65,12 +62,12 @@ pub end-requires : goal.end-requires
 end-requires g c =
     let ready = ready_group c.new-group.result c.replace.new.self c.region-daram.result.1 c.new-group.ensures.blocks c.replace.ensures.new c.replace.ensures.others
     (owner 1028 c.region-daram.result.1 c.region-daram.result.0 (lit≤ tt) c.region-daram.ensures.size (c.region-daram.ensures.region, c.region-daram.ensures.whole)) in
-    let same = same_group_then _ _ _ c.give-first_once.ensures.group (same_group_then _ _ _ c.give-second_once.ensures.group (same_group_then _ _ _ c.control-first_asked.ensures.group (same_group_then _ _ _ c.give-first_twice.ensures.group c.give-second_twice.ensures.group))) in
+    let same = same_blocks_then c.replace.new.self c.give-first_once.new.group c.give-second_twice.new.group c.give-first_once.ensures.blocks (same_blocks_then c.give-first_once.new.group c.give-second_once.new.group c.give-second_twice.new.group c.give-second_once.ensures.blocks (same_blocks_then c.give-second_once.new.group c.control-first_asked.new.group c.give-second_twice.new.group c.control-first_asked.ensures.blocks (same_blocks_then c.control-first_asked.new.group c.give-first_twice.new.group c.give-second_twice.new.group c.give-first_twice.ensures.blocks c.give-second_twice.ensures.blocks))) in
     all_gone c.replace.new.self c.give-second_twice.new.group c.take_block-block.new.group ready same c.take_block-block.ensures.others c.take_block-block.ensures.new
 
 pub close-requires : goal.close-requires
 close-requires g c =
-    let same = same_group_then _ _ _ c.give-first_once.ensures.group (same_group_then _ _ _ c.give-second_once.ensures.group (same_group_then _ _ _ c.control-first_asked.ensures.group (same_group_then _ _ _ c.give-first_twice.ensures.group c.give-second_twice.ensures.group))) in
-    let back = same_block_span 16 c.region-daram.result.1 c.take_block-block.result c.replace.new.self.daram c.give-second_twice.new.group.daram c.replace.ensures.new same.daram c.take_block-block.ensures.old in
+    let same = same_blocks_then c.replace.new.self c.give-first_once.new.group c.give-second_twice.new.group c.give-first_once.ensures.blocks (same_blocks_then c.give-first_once.new.group c.give-second_once.new.group c.give-second_twice.new.group c.give-second_once.ensures.blocks (same_blocks_then c.give-second_once.new.group c.control-first_asked.new.group c.give-second_twice.new.group c.control-first_asked.ensures.blocks (same_blocks_then c.control-first_asked.new.group c.give-first_twice.new.group c.give-second_twice.new.group c.give-first_twice.ensures.blocks c.give-second_twice.ensures.blocks))) in
+    let back = same_block_span 16 c.region-daram.result.1 c.take_block-block.result c.replace.new.self.daram c.give-second_twice.new.group.daram c.replace.ensures.new (same Daram) c.take_block-block.ensures.old in
     let whole = still_whole c.region-daram.result.1 _ c.region-daram.result.0 (c.region-daram.ensures.region, c.region-daram.ensures.whole) back in
     record { region = whole.0; whole = whole.1 }

@@ -1,14 +1,14 @@
 use Rattle.std.proofs.Common.{ap, ◌∙◌, ◌++◌, List, ℤ}
 use Rattle.std.specs.Prelude.{None}
 use Rattle.ialg.specs.History.{with_samples}
-use Rattle.lifecycle.proofs.Frames.{fits_beside}
+use Rattle.test_lives.proofs.Housing.{lent_beside}
 use Rattle.test_lives.proofs.neighbours.interleave.Goals as goal
 
-pub feed-second-requires-clause-fits : goal.feed-second-requires-clause-fits
-feed-second-requires-clause-fits g c = fits_beside _ _ _ c.args.group.now c.feed-waiting.new.group c.feed-waiting.ensures.group c.requires.second
+pub feed-second-requires-clause-lent : goal.feed-second-requires-clause-lent
+feed-second-requires-clause-lent g c = lent_beside c.requires.second c.feed-waiting.ensures.blocks
 
-pub feed-first-requires-clause-fits : goal.feed-first-requires-clause-fits
-feed-first-requires-clause-fits g c = fits_beside _ _ _ c.feed-waiting.new.group c.feed-second.new.group c.feed-second.ensures.group c.feed-waiting.ensures.fits
+pub feed-first-requires-clause-lent : goal.feed-first-requires-clause-lent
+feed-first-requires-clause-lent g c = lent_beside c.feed-waiting.ensures.lent c.feed-second.ensures.blocks
 
 pub returns : goal.returns
 returns g c = record {

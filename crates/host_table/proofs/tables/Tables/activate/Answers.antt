@@ -1,12 +1,10 @@
-use Rattle.std.proofs.Common.{rules, arith, ◌≡◌, ℕ, ◌<◌, Some, None, set, sym, ◌∙◌, ap, subst}
+use Rattle.std.proofs.Common.{rules, ◌≡◌, ℕ, ◌<◌, Some, None, set, refl, sym, ◌∙◌, ap, subst}
 use Rattle.std.proofs.lemmas.List.{get_or-set_same}
 use Rattle.std.proofs.lemmas.Option.{none-some}
 use Rattle.lifecycle.specs.declared.instance.Inst.TheVariants.{Idling, Running}
 use Rattle.mem_rec.specs.declared.TheConstants.{GROUPS}
-use Rattle.host_shared.specs.Owners.{HasOwners}
 use Rattle.host_shared.specs.Locations.{shared_at}
 use Rattle.host_table.specs.Table.{group_at, group_of, slot_at, slot_active_in, activity_at, instance_of}
-use Rattle.host_shared.proofs.Lent.{put_back}
 use Rattle.host_table.proofs.Changes.{member_of, once_inside, owners_of_slot, read_ok_group, read_later, slot_in, turned, fits_in_slot}
 use Rattle.host_table.proofs.Activities.{same_group_of, not_active, none_active_after, activity_after_activation}
 use Rattle.host_table.proofs.Stepping.{Change, running_there, ok_in, steps_to, steps_then, steps_after_change}
@@ -23,20 +21,21 @@ unreachable-requires g c =
     let none = none_active_after (activity_at c.args.self.now.groups) (activity_at c.self.inside.groups.items) c.in-Some.g (rw (← c.self.view_is) at c.deactivate_in-deactivated.ensures.step.activity) in
     none-some _ (sym none ∙ (ok_in c.self.view_is c.deactivate_in-deactivated.ensures.step.ok).active_known _ _ there)
 
-pub borrow_pieces-shared-requires-clause-owners : goal.borrow_pieces-shared-requires-clause-owners
-borrow_pieces-shared-requires-clause-owners g c =
-    owners_of_slot _ _ _ (ok_in c.self.view_is c.deactivate_in-deactivated.ensures.step.ok) c.args.i _
-    (read_later _ _ c.args.i c.requires.living (rw (← c.self.view_is) at (c.deactivate_in-deactivated.ensures.step.same.slot c.args.i)) _ c.index_mut.ensures.value ∙ c.in-Some-index_mut.is)
-
-pub activate_lent-requires : goal.activate_lent-requires
-activate_lent-requires g c =
+pub activate-requires : goal.activate-requires
+activate-requires g c =
+    let ok = ok_in c.self.view_is c.deactivate_in-deactivated.ensures.step.ok in
     let in_slot = read_later _ _ c.args.i c.requires.living (rw (← c.self.view_is) at (c.deactivate_in-deactivated.ensures.step.same.slot c.args.i)) _ c.index_mut.ensures.value ∙ c.in-Some-index_mut.is in
     let group : c.in-Some-index_mut.member.group ≡ c.in-Some.g =
     ap group_of (sym in_slot) ∙ same_group_of _ _ (rw (← c.self.view_is) at (c.deactivate_in-deactivated.ensures.step.same.slot c.args.i)) ∙ sym c.in-Some.ensures.group in
-    let in_range : c.in-Some.g < GROUPS = subst (λ (k : ℕ). k < GROUPS) group ((ok_in c.self.view_is c.deactivate_in-deactivated.ensures.step.ok).group_range _ _ in_slot) in
-    let once_is = sym c.borrow_pieces-shared.ensures.pieces in
-    let group_is = read_ok_group _ _ _ (ok_in c.self.view_is c.deactivate_in-deactivated.ensures.step.ok) _ in_range _ c.index_mut-in-Idling.ensures.value in
-    record { fits = fits_in_slot _ (ok_in c.self.view_is c.deactivate_in-deactivated.ensures.step.ok) in_slot c.in-Idling.is group once_is group_is }
+    let in_range : c.in-Some.g < GROUPS = subst (λ (k : ℕ). k < GROUPS) group (ok.group_range _ _ in_slot) in
+    let group_is = read_ok_group _ _ _ ok _ in_range _ c.index_mut-in-Idling.ensures.value in
+    record {
+      lent = record {
+        number = once_inside _ _ _ ok c.args.i _ in_slot;
+        owners = owners_of_slot _ _ _ ok c.args.i _ in_slot;
+        fits = fits_in_slot _ ok in_slot c.in-Idling.is group refl group_is;
+      };
+    }
 
 pub deactivate_in-deactivated-requires-clause-range : goal.deactivate_in-deactivated-requires-clause-range
 deactivate_in-deactivated-requires-clause-range g c =
@@ -44,19 +43,10 @@ deactivate_in-deactivated-requires-clause-range g c =
     let group : m.0.group ≡ c.in-Some.g = ap group_of (sym m.1) ∙ sym c.in-Some.ensures.group in
     subst (λ (k : ℕ). k < GROUPS) group ((c.requires.ready.ok).group_range c.args.i m.0 m.1)
 
-pub borrow_pieces-shared-requires-clause-number : goal.borrow_pieces-shared-requires-clause-number
-borrow_pieces-shared-requires-clause-number g c =
-    once_inside c.self.inside.instances.items c.self.inside.sharing.items c.self.inside.groups.items (ok_in c.self.view_is c.deactivate_in-deactivated.ensures.step.ok) c.args.i _ (read_later _ _ c.args.i c.requires.living (rw (← c.self.view_is) at (c.deactivate_in-deactivated.ensures.step.same.slot c.args.i)) _ c.index_mut.ensures.value ∙ c.in-Some-index_mut.is)
-
-pub give_back_pieces-requires-clause-number : goal.give_back_pieces-requires-clause-number
-give_back_pieces-requires-clause-number g c =
-    let inside = once_inside c.self.inside.instances.items c.self.inside.sharing.items c.self.inside.groups.items (ok_in c.self.view_is c.deactivate_in-deactivated.ensures.step.ok) c.args.i _ (read_later _ _ c.args.i c.requires.living (rw (← c.self.view_is) at (c.deactivate_in-deactivated.ensures.step.same.slot c.args.i)) _ c.index_mut.ensures.value ∙ c.in-Some-index_mut.is) in
-    omega (arith, inside, c.borrow_pieces-shared.ensures.length)
-
 pub make_active-requires : goal.make_active-requires
 make_active-requires g c =
     let in_slot = read_later _ _ c.args.i c.requires.living (rw (← c.self.view_is) at (c.deactivate_in-deactivated.ensures.step.same.slot c.args.i)) _ c.index_mut.ensures.value ∙ c.in-Some-index_mut.is in
-    rw (get_or-set_same c.self.inside.instances.items c.args.i (Some (record c.in-Some-index_mut.member { inst = Idling c.activate_lent.new.idle })) None (slot_in _ _ _ in_slot)) (search rules)
+    rw (get_or-set_same c.self.inside.instances.items c.args.i (Some (record c.in-Some-index_mut.member { inst = Idling c.activate.new.self })) None (slot_in _ _ _ in_slot)) (search rules)
 
 -- after the deactivation the instance is in the same group, which has no active member
 module _ (g : Over) (c : After-make_active g) where
@@ -76,37 +66,31 @@ module _ (g : Over) (c : After-make_active g) where
   alone : (j : ℕ) → (group_at c.self.inside.groups.items c.in-Some.g).active ≡ Some j → j ≡ c.args.i
   alone j active = absurd (none-some _ (sym none ∙ active))
 
-  owners : HasOwners c.self.inside.sharing.items c.args.i
-  owners = owners_of_slot _ _ _ (ok_in c.self.view_is c.deactivate_in-deactivated.ensures.step.ok) _ _ in_slot
-
-  once_is : shared_at c.self.inside.sharing.items c.args.i ≡ c.borrow_pieces-shared.result
-  once_is = sym c.borrow_pieces-shared.ensures.pieces
-
   group_is : group_at c.self.inside.groups.items c.in-Some.g ≡ c.index_mut-in-Idling.result.now
   group_is = read_ok_group _ _ _ (ok_in c.self.view_is c.deactivate_in-deactivated.ensures.step.ok) _ in_range _ c.index_mut-in-Idling.ensures.value
 
-  instances : c.make_active.new.instances.items ≡ set c.self.inside.instances.items c.args.i (Some (record { group = c.in-Some.g; inst = Running (record { instance = c.activate_lent.new.idle.instance }) }))
+  instances : c.make_active.new.instances.items ≡ set c.self.inside.instances.items c.args.i (Some (record { group = c.in-Some.g; inst = Running (record { instance = c.activate.new.self.instance }) }))
   instances =
       rw (← group)
-      (turned c.self.inside.instances.items c.args.i (record { group = c.in-Some-index_mut.member.group; inst = Idling c.activate_lent.new.idle })
+      (turned c.self.inside.instances.items c.args.i (record { group = c.in-Some-index_mut.member.group; inst = Idling c.activate.new.self })
       (λ q. record q { inst = Running (record { instance = instance_of q.inst }) }) c.make_active.new.instances.items (slot_in _ _ _ in_slot) c.make_active.ensures)
 
-  change : Change c.self.inside.instances.items c.self.inside.sharing.items c.self.inside.groups.items c.args.i c.in-Some.g c.in-Some-index_mut.member (Running (record { instance = c.activate_lent.new.idle.instance })) c.activate_lent.new.shared c.activate_lent.new.group
+  change : Change c.self.inside.instances.items c.self.inside.sharing.items c.self.inside.groups.items c.args.i c.in-Some.g c.in-Some-index_mut.member (Running (record { instance = c.activate.new.self.instance })) (shared_at c.activate.new.sharing.items c.args.i) c.activate.new.group
   change = record {
     ok = (ok_in c.self.view_is c.deactivate_in-deactivated.ensures.step.ok);
     in_slot = in_slot;
     of_group = group;
     alone = alone;
-    now = c.activate_lent.ensures.active;
-    same = rw c.in-Idling.is c.activate_lent.ensures.same;
-    pieces = rw once_is c.activate_lent.ensures.pieces;
-    written = rw (c.in-Idling.is, once_is) c.activate_lent.ensures.written;
-    blocks = λ space. rw group_is (c.activate_lent.ensures.blocks space);
+    now = c.activate.ensures.did.active;
+    same = rw c.in-Idling.is c.activate.ensures.did.same;
+    pieces = c.activate.ensures.did.pieces;
+    written = rw c.in-Idling.is c.activate.ensures.did.written;
+    blocks = λ space. rw group_is (c.activate.ensures.did.blocks space);
   }
 
 pub returns-clause-active : goal.returns-clause-active
 returns-clause-active g c =
-    let there : slot_at c.make_active.new.instances.items c.args.i ≡ Some (record { group = c.in-Some.g; inst = Running (record { instance = c.activate_lent.new.idle.instance }) }) =
+    let there : slot_at c.make_active.new.instances.items c.args.i ≡ Some (record { group = c.in-Some.g; inst = Running (record { instance = c.activate.new.self.instance }) }) =
     rw (instances g c) (get_or-set_same c.self.inside.instances.items c.args.i _ None (slot_in _ _ _ (in_slot g c))) in
     running_there _ _ _ there
 
@@ -117,11 +101,11 @@ returns-clause-step g c =
     (λ active. none-some _ (sym c.in-Some.ensures.idle ∙ ok.active_there _ _ (in_range g c) active)) in
     steps_then c.deactivate_in-deactivated.ensures.step
     (rw (← c.self.view_is)
-    (steps_to (instances g c) (put_back _ _ (owners g c) _ _ c.activate_lent.new.shared c.borrow_pieces-shared.ensures.left c.give_back_pieces.ensures)
-    (steps_after_change (change g c) (rw (← c.self.view_is) at c.deactivate_in-deactivated.ensures.step.poisoned) (λ e. absurd (none-some _ (sym e ∙ c.activate_lent.ensures.active)))
+    (steps_to (instances g c) c.activate.ensures.seen
+    (steps_after_change (change g c) (rw (← c.self.view_is) at c.deactivate_in-deactivated.ensures.step.poisoned) (λ e. absurd (none-some _ (sym e ∙ c.activate.ensures.did.active)))
     (λ k. rw (← c.in-Some.ensures.group)
     (activity_after_activation (activity_at c.args.self.now.groups) (activity_at c.self.inside.groups.items) c.in-Some.g c.args.i _
-    (rw (← c.self.view_is) at c.deactivate_in-deactivated.ensures.step.activity) idle c.activate_lent.ensures.active (rw (group_is g c) c.activate_lent.ensures.activations) k))
-    (λ histories before. c.activate_lent.ensures.keeps c.args.poison (histories c.args.i)
+    (rw (← c.self.view_is) at c.deactivate_in-deactivated.ensures.step.activity) idle c.activate.ensures.did.active (rw (group_is g c) c.activate.ensures.did.activations) k))
+    (λ histories before. c.activate.ensures.did.keeps c.args.poison (histories c.args.i)
     (rw (group_is g c) at ((rw (← c.self.view_is) at c.deactivate_in-deactivated.ensures.step.poisoned) c.in-Some.g (in_range g c) (none g c)))
-    (rw (once_is g c, c.in-Idling.is) at before)))))
+    (rw c.in-Idling.is at before)))))

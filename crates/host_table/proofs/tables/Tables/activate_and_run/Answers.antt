@@ -1,4 +1,4 @@
-use Rattle.std.proofs.Common.{◌≡◌, ℕ, ◌<◌, Some, set, refl, sym, ◌∙◌, ap, subst}
+use Rattle.std.proofs.Common.{◌≡◌, ℕ, ◌<◌, None, Some, get_or-set_same, rules, set, refl, sym, ◌∙◌, ap, subst}
 use Rattle.std.proofs.lemmas.Option.{same_Some, none-some}
 use Rattle.lifecycle.specs.declared.instance.Inst.TheVariants.{Idling, Running}
 use Rattle.mem_rec.specs.declared.TheConstants.{GROUPS}
@@ -19,8 +19,8 @@ unreachable-requires g c =
     let there : slot_active_in (slot_at c.self.inside.instances.items c.args.i) ≡ Some c.in-Some.member.group = rw (in_slot, c.in-Running.is) refl in
     none-some _ (sym (rw (← c.self.view_is) at c.requires.idle) ∙ there)
 
-pub activate_and_run_member-requires-clause-lent : goal.activate_and_run_member-requires-clause-lent
-activate_and_run_member-requires-clause-lent g c =
+pub activate_and_run-requires-clause-lent : goal.activate_and_run-requires-clause-lent
+activate_and_run-requires-clause-lent g c =
     let ok = (ok_in c.self.view_is c.requires.ok) in
     let m = member_of (slot_at c.self.inside.instances.items c.args.i) (rw (← c.self.view_is) at c.requires.living) in
     let in_slot = read_there c.self.inside.instances.items c.args.i m.0 m.1 _ c.index_mut.ensures.value ∙ c.in-Some.is in
@@ -32,6 +32,12 @@ activate_and_run_member-requires-clause-lent g c =
       owners = owners_of_slot _ _ _ ok _ _ in_slot;
       fits = fits_in_slot _ ok in_slot c.in-Idling.is group refl group_is;
     }
+
+pub make_active-requires : goal.make_active-requires
+make_active-requires g c =
+    let m = member_of (slot_at c.self.inside.instances.items c.args.i) (rw (← c.self.view_is) at c.requires.living) in
+    let in_slot = read_there c.self.inside.instances.items c.args.i m.0 m.1 _ c.index_mut.ensures.value ∙ c.in-Some.is in
+    rw (get_or-set_same c.self.inside.instances.items c.args.i (Some (record c.in-Some.member { inst = Idling c.activate_and_run.new.self })) None (slot_in _ _ _ in_slot)) (search rules)
 
 -- the instance stands in its slot, and its group has no active member
 module _ (g : Over) (c : After-make_active g) where
@@ -50,32 +56,32 @@ module _ (g : Over) (c : After-make_active g) where
   group_is : group_at c.self.inside.groups.items c.args.g ≡ c.index_mut-in-Idling.result.now
   group_is = read_ok_group _ _ _ (ok_in c.self.view_is c.requires.ok) _ in_range _ c.index_mut-in-Idling.ensures.value
 
-  instances : c.make_active.new.instances.items ≡ set c.self.inside.instances.items c.args.i (Some (record { group = c.args.g; inst = Running (record { instance = c.activate_and_run_member.new.idle.instance }) }))
+  instances : c.make_active.new.instances.items ≡ set c.self.inside.instances.items c.args.i (Some (record { group = c.args.g; inst = Running (record { instance = c.activate_and_run.new.self.instance }) }))
   instances =
       rw (← group)
-      (turned c.self.inside.instances.items c.args.i (record { group = c.in-Some.member.group; inst = Idling c.activate_and_run_member.new.idle })
+      (turned c.self.inside.instances.items c.args.i (record { group = c.in-Some.member.group; inst = Idling c.activate_and_run.new.self })
       (λ q. record q { inst = Running (record { instance = instance_of q.inst }) }) c.make_active.new.instances.items (slot_in _ _ _ in_slot) c.make_active.ensures)
 
-  change : Change c.self.inside.instances.items c.self.inside.sharing.items c.self.inside.groups.items c.args.i c.args.g c.in-Some.member (Running (record { instance = c.activate_and_run_member.new.idle.instance })) (shared_at c.activate_and_run_member.new.sharing.items c.args.i) c.activate_and_run_member.new.group
+  change : Change c.self.inside.instances.items c.self.inside.sharing.items c.self.inside.groups.items c.args.i c.args.g c.in-Some.member (Running (record { instance = c.activate_and_run.new.self.instance })) (shared_at c.activate_and_run.new.sharing.items c.args.i) c.activate_and_run.new.group
   change = record {
     ok = (ok_in c.self.view_is c.requires.ok);
     in_slot = in_slot;
     of_group = group;
     alone = alone;
-    now = c.activate_and_run_member.ensures.did.active;
-    same = rw c.in-Idling.is c.activate_and_run_member.ensures.did.same;
-    pieces = c.activate_and_run_member.ensures.did.pieces;
-    written = rw c.in-Idling.is c.activate_and_run_member.ensures.did.written;
-    blocks = λ space. rw group_is (c.activate_and_run_member.ensures.did.blocks space);
+    now = c.activate_and_run.ensures.did.active;
+    same = rw c.in-Idling.is c.activate_and_run.ensures.did.same;
+    pieces = c.activate_and_run.ensures.did.pieces;
+    written = rw c.in-Idling.is c.activate_and_run.ensures.did.written;
+    blocks = λ space. rw group_is (c.activate_and_run.ensures.did.blocks space);
   }
 
 pub returns-clause-step : goal.returns-clause-step
 returns-clause-step g c w poisoned =
     rw (← c.self.view_is)
-    (steps_to (instances g c) c.activate_and_run_member.ensures.seen
-    (steps_after_step (change g c) (rw (← c.self.view_is) at poisoned) (λ e. absurd (none-some _ (sym e ∙ c.activate_and_run_member.ensures.did.active)))
-    (same_activity (activity_at c.self.inside.groups.items) c.args.g _ (newly_active c.args.i (activity_at c.self.inside.groups.items c.args.g)) c.activate_and_run_member.ensures.did.active (rw (group_is g c) c.activate_and_run_member.ensures.did.activations))
-    _ (λ histories before. c.activate_and_run_member.ensures.did.keeps w (histories c.args.i)
+    (steps_to (instances g c) c.activate_and_run.ensures.seen
+    (steps_after_step (change g c) (rw (← c.self.view_is) at poisoned) (λ e. absurd (none-some _ (sym e ∙ c.activate_and_run.ensures.did.active)))
+    (same_activity (activity_at c.self.inside.groups.items) c.args.g _ (newly_active c.args.i (activity_at c.self.inside.groups.items c.args.g)) c.activate_and_run.ensures.did.active (rw (group_is g c) c.activate_and_run.ensures.did.activations))
+    _ (λ histories before. c.activate_and_run.ensures.did.keeps w (histories c.args.i)
     (rw (group_is g c) at ((rw (← c.self.view_is) at poisoned) c.args.g (in_range g c) (rw (← c.self.view_is) at c.requires.resting))) (rw c.in-Idling.is at before))))
 
 pub returns-clause-output : goal.returns-clause-output
@@ -84,5 +90,5 @@ returns-clause-output g c w poisoned histories keeps m at lawful =
     let inst : m.inst ≡ Idling c.in-Idling.idle = ap (λ q. q.inst) (sym is) ∙ c.in-Idling.is in
     let kept = kept_in_slot _ _ _ _ (in_slot g c) c.in-Idling.is refl refl g.M.Ialg.law w histories (rw (← c.self.view_is) at keeps) in
     rw inst
-    (c.activate_and_run_member.ensures.did.output w (histories c.args.i) (rw inst at lawful)
+    (c.activate_and_run.ensures.did.output w (histories c.args.i) (rw inst at lawful)
     (rw (group_is g c) at ((rw (← c.self.view_is) at poisoned) c.args.g (in_range g c) (rw (← c.self.view_is) at c.requires.resting))) kept)

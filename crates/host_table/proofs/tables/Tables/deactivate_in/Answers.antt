@@ -30,8 +30,8 @@ unreachable-requires g c =
     let in_slot = read_slot c.self.inside.instances.items c.in-Some.i c.args.g there _ c.index_mut.ensures.value ∙ c.in-Some-index_mut.is in
     none-some _ (rw (in_slot, c.in-Idling.is) at there)
 
-pub deactivate_member-requires : goal.deactivate_member-requires
-deactivate_member-requires g c =
+pub deactivate-requires : goal.deactivate-requires
+deactivate-requires g c =
     let ok = (ok_in c.self.view_is c.requires.ready.ok) in
     let there = read_active _ _ _ ok _ _ c.requires.range _ c.index.ensures (sym c.active.ensures ∙ c.in-Some.is) in
     let in_slot = read_slot c.self.inside.instances.items c.in-Some.i c.args.g there _ c.index_mut.ensures.value ∙ c.in-Some-index_mut.is in
@@ -48,7 +48,7 @@ deactivate_member-requires g c =
 pub make_idle-requires : goal.make_idle-requires
 make_idle-requires g c =
     let there = read_active _ _ _ (ok_in c.self.view_is c.requires.ready.ok) _ _ c.requires.range _ c.index.ensures (sym c.active.ensures ∙ c.in-Some.is) in
-    rw (get_or-set_same c.self.inside.instances.items c.in-Some.i (Some (record c.in-Some-index_mut.member { inst = Running c.deactivate_member.new.active })) None (active_inside c.self.inside.instances.items c.in-Some.i c.args.g there)) (search rules)
+    rw (get_or-set_same c.self.inside.instances.items c.in-Some.i (Some (record c.in-Some-index_mut.member { inst = Running c.deactivate.new.self })) None (active_inside c.self.inside.instances.items c.in-Some.i c.args.g there)) (search rules)
 
 -- the active member stands in its slot, and is active there
 module _ (g : Over) (c : After-make_idle g) where
@@ -67,29 +67,29 @@ module _ (g : Over) (c : After-make_idle g) where
   group_is : group_at c.self.inside.groups.items c.args.g ≡ c.index_mut-in-Running.result.now
   group_is = read_ok_group _ _ _ (ok_in c.self.view_is c.requires.ready.ok) _ c.requires.range _ c.index_mut-in-Running.ensures.value
 
-  instances : c.make_idle.new.instances.items ≡ set c.self.inside.instances.items c.in-Some.i (Some (record { group = c.args.g; inst = Idling (record { instance = c.deactivate_member.new.active.instance }) }))
+  instances : c.make_idle.new.instances.items ≡ set c.self.inside.instances.items c.in-Some.i (Some (record { group = c.args.g; inst = Idling (record { instance = c.deactivate.new.self.instance }) }))
   instances =
       rw (← of_group)
-      (turned c.self.inside.instances.items c.in-Some.i (record { group = c.in-Some-index_mut.member.group; inst = Running c.deactivate_member.new.active })
+      (turned c.self.inside.instances.items c.in-Some.i (record { group = c.in-Some-index_mut.member.group; inst = Running c.deactivate.new.self })
       (λ q. record q { inst = Idling (record { instance = instance_of q.inst }) }) c.make_idle.new.instances.items (active_inside c.self.inside.instances.items c.in-Some.i c.args.g there) c.make_idle.ensures)
 
-  change : Change c.self.inside.instances.items c.self.inside.sharing.items c.self.inside.groups.items c.in-Some.i c.args.g c.in-Some-index_mut.member (Idling (record { instance = c.deactivate_member.new.active.instance })) (shared_at c.deactivate_member.new.sharing.items c.in-Some.i) c.deactivate_member.new.group
+  change : Change c.self.inside.instances.items c.self.inside.sharing.items c.self.inside.groups.items c.in-Some.i c.args.g c.in-Some-index_mut.member (Idling (record { instance = c.deactivate.new.self.instance })) (shared_at c.deactivate.new.sharing.items c.in-Some.i) c.deactivate.new.group
   change = record {
     ok = (ok_in c.self.view_is c.requires.ready.ok);
     in_slot = in_slot;
     of_group = of_group;
     alone = alone;
-    now = c.deactivate_member.ensures.did.active;
-    same = rw c.in-Running.is c.deactivate_member.ensures.did.same;
-    pieces = c.deactivate_member.ensures.did.pieces;
-    written = rw c.in-Running.is c.deactivate_member.ensures.did.written;
-    blocks = λ space. rw group_is (c.deactivate_member.ensures.did.blocks space);
+    now = c.deactivate.ensures.did.active;
+    same = rw c.in-Running.is c.deactivate.ensures.did.same;
+    pieces = c.deactivate.ensures.did.pieces;
+    written = rw c.in-Running.is c.deactivate.ensures.did.written;
+    blocks = λ space. rw group_is (c.deactivate.ensures.did.blocks space);
   }
 
 pub returns-clause-step : goal.returns-clause-step
 returns-clause-step g c =
     rw (← c.self.view_is)
-    (steps_to (instances g c) c.deactivate_member.ensures.seen
-    (steps_after_change (change g c) (rw (← c.self.view_is) at c.requires.ready.poisoned) (λ e. c.deactivate_member.ensures.did.poisoned)
-    (same_activity (activity_at c.self.inside.groups.items) c.args.g _ (deactivated (activity_at c.self.inside.groups.items c.args.g)) c.deactivate_member.ensures.did.active (rw (group_is g c) c.deactivate_member.ensures.did.activations))
-    (λ histories before. c.deactivate_member.ensures.did.keeps c.args.poison (histories c.in-Some.i) (rw (group_is g c, c.in-Running.is) at before))))
+    (steps_to (instances g c) c.deactivate.ensures.seen
+    (steps_after_change (change g c) (rw (← c.self.view_is) at c.requires.ready.poisoned) (λ e. c.deactivate.ensures.did.poisoned)
+    (same_activity (activity_at c.self.inside.groups.items) c.args.g _ (deactivated (activity_at c.self.inside.groups.items c.args.g)) c.deactivate.ensures.did.active (rw (group_is g c) c.deactivate.ensures.did.activations))
+    (λ histories before. c.deactivate.ensures.did.keeps c.args.poison (histories c.in-Some.i) (rw (group_is g c, c.in-Running.is) at before))))

@@ -1,19 +1,29 @@
 use Rattle.std.proofs.Common.{refl}
-use Rattle.lifecycle.proofs.Frames.{fits_stay}
+use Rattle.host_shared.specs.Locations.{shared_at}
+use Rattle.lifecycle.proofs.LentAgain.{lent_again}
+use Rattle.lifecycle.proofs.Groups.{same_blocks}
 use Rattle.lifecycle.proofs.Once.{once_active}
 use Rattle.lifecycle.proofs.active.Active.control.Goals as goal
 
-pub lend-requires-clause-sizes : goal.lend-requires-clause-sizes
-lend-requires-clause-sizes g c = c.requires.fits.lent.sizes
+pub returns-clause-did : goal.returns-clause-did
+returns-clause-did g c =
+    let old = c.args.self.now.instance in
+    let before = shared_at c.args.sharing.now.items c.args.i in
+    let after = shared_at c.perform.new.sharing.items c.args.i in
+    let done = c.perform.ensures.done in
+    record {
+      same = record { kind = refl; params = refl; table = refl; own = c.perform.ensures.own };
+      pieces = c.perform.ensures.shared;
+      written = once_active old.table old.own c.perform.new.own before after c.args.group.now c.perform.new.group done.0;
+      group = c.perform.ensures.group;
+      keeps = λ w h takes keeps lawful. (done.1 old.params.items w h lawful takes refl c.requires.lent.fits.lent (keeps lawful)).0;
+      status = λ w h lawful takes keeps. (done.1 old.params.items w h lawful takes refl c.requires.lent.fits.lent (keeps lawful)).1;
+    }
 
-pub returns-clause-fits : goal.returns-clause-fits
-returns-clause-fits g c = fits_stay c.lend.ensures.own c.lend.ensures.shared c.lend.ensures.group c.requires.fits
+pub perform-requires-clause-sizes : goal.perform-requires-clause-sizes
+perform-requires-clause-sizes g c = c.requires.lent.fits.lent.sizes
 
-pub returns-clause-keeps : goal.returns-clause-keeps
-returns-clause-keeps g c w h takes keeps lawful = (c.lend.ensures.done.1 c.args.self.now.instance.params.items w h lawful takes refl c.requires.fits.lent (keeps lawful)).0
-
-pub returns-clause-status : goal.returns-clause-status
-returns-clause-status g c w h lawful takes keeps = (c.lend.ensures.done.1 c.args.self.now.instance.params.items w h lawful takes refl c.requires.fits.lent (keeps lawful)).1
-
-pub returns-clause-once : goal.returns-clause-once
-returns-clause-once g c = once_active c.args.self.now.instance.table c.args.self.now.instance.own c.lend.new.own c.args.shared.now c.lend.new.shared c.args.group.now c.lend.new.self c.lend.ensures.done.0
+pub returns-clause-lent : goal.returns-clause-lent
+returns-clause-lent g c =
+    let did = returns-clause-did g c in
+    lent_again c.args.self.now.instance (record c.args.self.now.instance { own = c.perform.new.own }) c.args.i c.args.sharing.now.items c.perform.new.sharing.items c.args.group.now c.perform.new.group did.same c.perform.ensures.seen did.pieces (same_blocks c.args.group.now c.perform.new.group did.group) c.requires.lent

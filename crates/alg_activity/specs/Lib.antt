@@ -1,0 +1,5 @@
+pub mod Equation
+pub mod Numbers
+pub mod Keeps
+pub mod Rows
+pub mod Sizes

@@ -1,0 +1,2 @@
+pub mod Equation
+pub mod Rows
