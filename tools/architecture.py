@@ -46,12 +46,12 @@ PLACES: dict[str, Place] = {
     "host_map": Place(MEANT, 3, "who owns which block"),
     "voice_script": Place(MEANT, 8, "the grammar, both ways"),
     "host_spec": Place(MEANT, 6, "what each call may answer"),
+    "host_protocol": Place(MEANT, 7, "which IALG calls, in order"),
     "channel_spec": Place(MEANT, 9, "the same with channels"),
     "console_spec": Place(MEANT, 10, "lines, replies, main theorem"),
     # what runs
     "mem_rec": Place(RUNS, 0, "memory records and layouts"),
     "space_raw": Place(RUNS, 0, "owned raw words"),
-    "octet_buffer": Place(RUNS, 0, "bytes in the value"),
     "space_heap": Place(RUNS, 3, "first-fit heap"),
     "record_loans": Place(RUNS, 2, "records lent as slices"),
     "scratch_group": Place(RUNS, 4, "a group's scratch blocks"),
@@ -97,6 +97,7 @@ PLACES: dict[str, Place] = {
     # tests
     "test_algorithms": Place(TESTS, 7, "kinds by numbers"),
     "test_blocker": Place(TESTS, 5, "a kind with a state"),
+    "test_diary": Place(TESTS, 5, "calls written down"),
     "test_doubles": Place(TESTS, 6, "what fails or breaks laws"),
     "test_memory": Place(TESTS, 8, "heaps, spaces, groups"),
     "test_lives": Place(TESTS, 9, "one or two instances"),

@@ -26,7 +26,7 @@ RENAMED = re.compile(r"use Rattle\.(\w+)\.specs\.declared(?:\.\w+)*\.TheConstant
 DECLARED = re.compile(r"^\s*(?:pub(?:\(crate\))? )?const (\w+): [^=]+ = ([^;]+);", re.MULTILINE)
 MODEL = "tests/model/rokdaum_model/"
 # a crate for tests has constants of its own rows
-OWN = ("test_doubles", "test_lives")
+OWN = ("test_diary", "test_doubles", "test_lives")
 
 
 class Place(NamedTuple):

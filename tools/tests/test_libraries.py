@@ -15,8 +15,12 @@ TOP = Path(__file__).resolve().parents[2]
 USES = {
     "arrayvec": (
         ("mem_rec/src", r"use arrayvec::ArrayVec;"),                        # tables of records
-        ("ialg/src", r"use arrayvec::ArrayVec;"),                           # parameters and words
+        ("ialg/src", r"ArrayVec<i16, PARAMETER_WORDS>"),                    # parameters
+        ("ialg/src", r"words: ArrayVec<i16, BLOCK_SAMPLES>"),               # blocks of samples
         ("host_map/src", r"use arrayvec::ArrayVec;"),                       # maps
+        ("voice_script/src", r"ArrayVec<u8, REPLY_OCTETS>"),                # the text of a reply
+        ("script_server/src", r"ArrayVec<u8, LINE_OCTETS>"),                # the text of a line
+        ("octet_ports/src", r"ArrayVec<u8, JOURNAL_OCTETS>"),               # what waits for a port
         ("dsp_arguments/src", r"use arrayvec::ArrayVec;"),                  # pairs of ports
     ),
     "byteorder": (("dsp_console/src", r"use byteorder::"),),                # little-endian samples

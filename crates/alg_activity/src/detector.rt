@@ -12,10 +12,10 @@ use crate::{ACTIVITY_KIND, MOST_BITS, MOST_SAMPLES, PARAMETERS, STATE_WORDS};
 use kind_parts::is_within;
 use kind_steps::{Stepped, Stepping};
 
-/// A detector of voice activity. For each frame it gives 1 where somebody talks, and else 0. Its parameters are N s margin rise least hang: the
-/// samples of a frame, 1 to 1024; the bits by which each sample's square is shifted to the right; a frame with speech has more than 2^margin
-/// times the energy of the floor; the floor falls to the energy of a frame at once, and rises by 2^-rise of itself in a frame; it is at least
-/// `least`, in Q31; and behind a frame with speech so many more count as speech.
+/// A detector of voice activity. For each frame it gives 1 where somebody talks, and else 0. Its parameters are N s margin rise least hang:
+/// the samples of a frame, 1 to 1024; the bits by which each sample's square is shifted to the right; a frame with speech has more than
+/// 2^margin times the energy of the floor; the floor falls to the energy of a frame at once, and rises by 2^-rise of itself in a frame; it
+/// is at least `least`, in Q31; and behind a frame with speech so many more count as speech.
 pub type Activity = Stepped<Detector>;
 
 /// What a detector makes of a frame. Its state is for how many frames speech is told, and the floor.

@@ -12,9 +12,9 @@ use crate::{ADPCM_KIND, STATE_WORDS};
 use adpcm_kernel::{Coder, State, take};
 use kind_steps::{Recursion, Recursive};
 
-/// An ADPCM coder (ITU-T G.726). Its parameters are the rate in kbit/s, 16, 24, 32 or 40, and the direction, 0 to encode and 1 to decode. It gives a
-/// word for each word: the code of a sample in the lower bits, or the sample of a code. Samples have their fourteen bits of G.726 in the upper
-/// bits of their words. A code that is decoded is in the lower bits of its word, whatever the others are.
+/// An ADPCM coder (ITU-T G.726). Its parameters are the rate in kbit/s, 16, 24, 32 or 40, and the direction, 0 to encode and 1 to decode.
+/// It gives a word for each word: the code of a sample in the lower bits, or the sample of a code. Samples have their fourteen bits of
+/// G.726 in the upper bits of their words. A code that is decoded is in the lower bits of its word, whatever the others are.
 pub type Adpcm = Recursive<Coding>;
 
 /// What a coder makes of a word.

@@ -69,8 +69,8 @@ fn limited_less(ahead: i32, newer: i32) -> i16
     word.clamp(least, most) as i16
 }
 
-/// The sum less the product, in Q15, limited. Where it is beyond words it is made once more, from its two parts: if it alone were passed on,
-/// the compiler would add up all products before.
+/// The sum less the product, in Q15, limited. Where it is beyond words it is made once more, from its two parts: if it alone were passed
+/// on, the compiler would add up all products before.
 #[inline]
 fn nearest_less(ahead: i32, newer: i32) -> i16
     requires { unsigned_abs (ahead -ℤ newer) < 2 ^ 31 }

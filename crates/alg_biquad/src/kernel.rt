@@ -66,8 +66,8 @@ impl State {
     }
 }
 
-/// The output at the sample `x`, in Q15, each step saturated in its order, the last two at once. Coefficients are in Q14, so that the sum is in Q30, and in Q31
-/// when it is doubled.
+/// The output at the sample `x`, in Q15, each step saturated in its order, the last two at once. Coefficients are in Q14, so that the sum
+/// is in Q30, and in Q31 when it is doubled.
 #[inline]
 fn limited_output(c: &[i16], state: State, x: i16) -> i16
     requires { length c.now ≡ COEFFICIENTS }
@@ -122,8 +122,8 @@ fn output_alone(c: &[i16], words: &[i16], x: i16) -> i16
     }
 }
 
-/// Runs samples as long as no step saturates, and none where a coefficient is the least word: there are as many outputs. Gives the state after
-/// them.
+/// Runs samples as long as no step saturates, and none where a coefficient is the least word: there are as many outputs. Gives the state
+/// after them.
 fn run_plain(coefficients: &[i16], state: State, input: &[i16], out: &mut Block) -> State
     requires five { length coefficients.now ≡ COEFFICIENTS }
     requires within { length input.now ≤ BLOCK_SAMPLES }
@@ -158,8 +158,8 @@ fn run_plain(coefficients: &[i16], state: State, input: &[i16], out: &mut Block)
     State { x1, x2, y1, y2 }
 }
 
-/// Runs one sample; `state` has the two newest samples and outputs before and after. For a sample alone the loops of a block cost more than its
-/// sums.
+/// Runs one sample; `state` has the two newest samples and outputs before and after. For a sample alone the loops of a block cost more than
+/// its sums.
 fn run_one(coefficients: &[i16], state: &mut [i16], x: i16, out: &mut Block)
     requires five { length coefficients.now ≡ COEFFICIENTS }
     requires four { length state.old ≡ STATE_WORDS }
@@ -175,8 +175,8 @@ fn run_one(coefficients: &[i16], state: &mut [i16], x: i16, out: &mut Block)
     after.write(state);
 }
 
-/// Runs samples as [`filter`] does, as many as they are. Where a step saturates, others soon will: the rest of the block is run with a limit
-/// at each step.
+/// Runs samples as [`filter`] does, as many as they are. Where a step saturates, others soon will: the rest of the block is run with a
+/// limit at each step.
 ///
 /// A call of its own, so that its loops take no registers from one sample.
 #[inline(never)]

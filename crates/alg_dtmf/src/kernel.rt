@@ -310,7 +310,8 @@ fn levels_above(v: Band) -> Levels
 
 /// Runs the detector over a block; `state` has the frame so far before and after.
 ///
-/// It is a call of its own: where the compiler knows the factors, it drops some tones' limits, and doesn't compute the tones side by side any more.
+/// It is a call of its own: where the compiler knows the factors, it drops some tones' limits, and doesn't compute the tones side by side
+/// any more.
 #[inline(never)]
 pub(crate) fn detect(
     tuning: &Tuning,

@@ -41,8 +41,8 @@ impl Ialg for Decim {
       meaning = decim_meaning;
       bound = λ _. DECIM_RECORDS;
       fill = λ _ p k. p;
-      idle_refines = λ _ p rs wss h. IsIdleDecim p rs wss h;
-      active_refines = λ _ p rs wss h. IsActiveDecim p rs wss h;
+      idle_refines = λ _ p rs wss l. IsIdleDecim p rs wss l.history;
+      active_refines = λ _ p rs wss l. IsActiveDecim p rs wss l.history;
     } };
 
     fn alg_num_alloc(&self) -> usize {
@@ -107,13 +107,13 @@ impl Ialg for Decim {
 
     ghost compared = { λ a b i. true };
 
-    ghost idle_words = { λ _ p rs wss h idle. idle.keeps.history };
+    ghost idle_words = { λ _ p rs wss l idle. idle.keeps.history };
 
-    ghost active_words = { λ _ p rs wss h active. active.keeps.history };
+    ghost active_words = { λ _ p rs wss l active. active.keeps.history };
 
-    ghost idle_fill = { λ _ p rs wss h idle. idle.constants.constants };
+    ghost idle_fill = { λ _ p rs wss l idle. idle.constants.constants };
 
-    ghost active_fill = { λ _ p rs wss h active. active.constants.constants };
+    ghost active_fill = { λ _ p rs wss l active. active.constants.constants };
 }
 
 /// The records of a decimator of so many coefficients.
@@ -201,6 +201,7 @@ fn restore_ring(mem: &mut Lent<'_>)
     mem.put(k, words);
 }
 
+/// Fills the ring with the past samples of the kept words.
 fn restore_from(mem: &Lent<'_>, ring: &mut [i16])
     ensures { RestoresPastLent mem.now ring.old ring.new }
 {
@@ -222,6 +223,7 @@ fn save_past(mem: &mut Lent<'_>)
     mem.put(k, words);
 }
 
+/// Keeps the past samples of the ring.
 fn save_from(mem: &Lent<'_>, kept: &mut [i16])
     ensures past { SavesPastLent mem.now kept.old kept.new }
     ensures phase { word_at kept.new 0 ≡ word_at kept.old 0 }
@@ -247,6 +249,7 @@ fn run_ring(mem: &mut Lent<'_>, input: &[i16], out: &mut Block)
     mem.put(k, words);
 }
 
+/// Runs the ring over a block, by the constants and the phase.
 fn run_with(mem: &Lent<'_>, ring: &mut [i16], input: &[i16], out: &mut Block)
     requires empty { out.old.items ≡ [] }
     requires within { length input.now ≤ BLOCK_SAMPLES }
@@ -276,6 +279,7 @@ fn count(mem: &mut Lent<'_>, samples: usize)
     mem.put(k, counter);
 }
 
+/// Moves the phase on by so many samples.
 fn count_with(mem: &Lent<'_>, kept: &mut [i16], samples: usize)
     requires { samples ≤ BLOCK_SAMPLES }
     ensures { CountsOnLent mem.now samples kept.old kept.new }

@@ -38,8 +38,8 @@ impl Ialg for G711 {
       meaning = g711_meaning;
       bound = λ _. CODER_RECORDS;
       fill = λ _ p. fill_of (coder_named p);
-      idle_refines = λ _. Keeps;
-      active_refines = λ _. Keeps;
+      idle_refines = λ _ p rs wss l. Keeps p rs wss l.history;
+      active_refines = λ _ p rs wss l. Keeps p rs wss l.history;
     } };
 
     fn alg_num_alloc(&self) -> usize {

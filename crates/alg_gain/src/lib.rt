@@ -60,8 +60,8 @@ impl Mapping for Amplifier {
     }
 }
 
-/// `v` shifted to the left by [`FACTOR_SHIFT`] bits, saturated, as `l_shl` does it. By two comparisons in 32 bits, so that the compiler makes
-/// several samples at once, for which `l_shl` of any count has no short way.
+/// `v` shifted to the left by [`FACTOR_SHIFT`] bits, saturated, as `l_shl` does it. By two comparisons in 32 bits, so that the compiler
+/// makes several samples at once, for which `l_shl` of any count has no short way.
 #[inline(always)]
 fn shifted(v: i32) -> i32
     ensures { result ≡ l_shl_of v factor_shift }

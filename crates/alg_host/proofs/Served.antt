@@ -16,7 +16,9 @@ use Rattle.host_spec.specs.State.{Living, State, sharers_of}
 use Rattle.host_spec.specs.Steps.{Outcome, unless, control_refusal, controlled, given, processed, release, group_refusal, step, moving, delete, instance_refusal, without_instance, create_refusal, newborn, with_memory, with_room}
 use Rattle.host_spec.specs.Calls.{Controls, Creates}
 use Rattle.host_spec.specs.Calls.Call.{Process}
-use Rattle.host_table.specs.Steps.{Ready, TellsOutput}
+use Rattle.host_table.specs.Refinement.{logs_of}
+use Rattle.host_table.specs.Steps.{active_beside, Ready, TellsOutput}
+use Rattle.host_table.proofs.HistoriesGo.{histories_given}
 use Rattle.host_moves.proofs.KeptLemmas.{block_given}
 use Rattle.host_moves.specs.Refinement.{TablesRefine}
 use Rattle.host_moves.specs.Hosts.{TablesAndSpacesRefine}
@@ -85,7 +87,8 @@ told_serves laws host ready i x (Some y) tells = λ before refines.
     let after = processed before i (x ∷ []) in
     let step = tells.step host.poison ready in
     let did = block_given laws t.instances t.sharing t.groups t.instances t.sharing t.groups before i host.poison (x ∷ []) (y ∷ [])
-    refines.poison refines.kept.tables tells.living step.same step.activity step.keeps (tells.output host.poison) (lit≤ tt) (lit≤ tt) in
+    refines.poison refines.kept.tables tells.living step.same step.activity
+    (histories_given laws host.poison t t i (x ∷ []) (active_beside t i) step.keeps) (λ histories was. tells.output host.poison (logs_of histories was.0) was.1) (lit≤ tt) (lit≤ tt) in
     let same = processed_stays before i (x ∷ []) in (
       after,
       did.0,

@@ -44,8 +44,8 @@ impl<M: Ialg> Host<M> {
         give_block(&mut self.tables, self.poison, i, input, out);
     }
 
-    /// What instance `i` gives for the one sample `x`, where it is active and that is told by reading its records alone: it has taken the sample
-    /// then, as [`process`](Host::process) would have given it. None: it has to be given the sample.
+    /// What instance `i` gives for the one sample `x`, where it is active and that is told by reading its records alone: it has taken the
+    /// sample then, as [`process`](Host::process) would have given it. None: it has to be given the sample.
     #[inline(always)]
     pub fn process_sample(&self, i: u8, x: i16) -> Option<i16>
         ensures machine { IfSome result (λ y. HostCallRefines M.law (Process i (x ∷ []) (y ∷ [])) self.now self.now) }

@@ -31,7 +31,8 @@ impl<M> Model for Host<M> {
 
 impl<M: Ialg> Host<M> {
     /// A host without instances over three spaces of these sizes, in words of 16 bits: in a new [`HostMemory`], and no later call asks for
-    /// memory. Where there is a poison word, each block holds it when it is placed, and a group's blocks hold it wherever no member is active.
+    /// memory. Where there is a poison word, each block holds it when it is placed, and a group's blocks hold it wherever no member is
+    /// active.
     ///
     /// # Errors
     ///
@@ -47,8 +48,8 @@ impl<M: Ialg> Host<M> {
         Ok(Host::in_memory(memory, poison))
     }
 
-    /// A host without instances in this memory, which it asked for before. Where there is a poison word, each block holds it when it is placed,
-    /// and a group's blocks hold it wherever no member is active.
+    /// A host without instances in this memory, which it asked for before. Where there is a poison word, each block holds it when it is
+    /// placed, and a group's blocks hold it wherever no member is active.
     pub fn in_memory(memory: HostMemory<M>, poison: Option<i16>) -> Host<M>
         ensures empty { (i : ℕ) → lives result i ≡ false }
         ensures host { HostRefines M.law result (new_state memory.spaces.sizes poison) }

@@ -1,9 +1,9 @@
 // SPDX-License-Identifier: Apache-2.0
 //! A host of algorithms: instances in three spaces of memory, in groups that work in the same scratch words by turns.
 //!
-//! For each call there is one sentence: whatever state of the specification the host refined, the call is answered as the specification answers
-//! it there, and the host refines a state that comes after it. No condition is put on the algorithm types that it hosts. Over any list of calls
-//! each lawful instance gives the outputs of its own history ([`make_all`]).
+//! For each call there is one sentence: whatever state of the specification the host refined, the call is answered as the specification
+//! answers it there, and the host refines a state that comes after it. No condition is put on the algorithm types that it hosts. Over any
+//! list of calls each lawful instance gives the outputs of its own history ([`make_all`]).
 #![tactic(auto)]
 
 mod calls;

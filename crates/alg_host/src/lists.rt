@@ -7,7 +7,7 @@ use crate::host::Host;
 use host_spec::{lives_agree, lives_go_by_their_histories};
 use ialg::{Block, Ialg};
 
-// Gives an instance a block, if there is an instance of the number, and a sample.
+/// Gives an instance a block, if there is an instance of the number, and a sample.
 fn give<M: Ialg>(host: &mut Host<M>, i: u8, input: &Block) -> Option<Block>
     ensures { HostCallsRefine M.law (made (Request.Process i input.now result)) host.old host.new }
 {

@@ -8,10 +8,10 @@ use crate::tones::{Cadence, Tones, by_parameters, read, take, write};
 use crate::{SIGNAL_KIND, STATE_WORDS};
 use kind_steps::{Recursion, Recursive};
 
-/// A generator of one or two tones with a cadence. Its parameters are k1 s1 k2 s2 on off count: of each tone twice the cosine of the angle by
-/// which it turns in a sample, in Q14, and its second sample, in Q15, 0 0 for no tone; how many samples of a cycle sound and how many don't; and
-/// how many cycles there are, 0 for no end. Each sample that it is given gives one: the tones' sum while they sound, and itself while they
-/// don't. A reset begins the cadence.
+/// A generator of one or two tones with a cadence. Its parameters are k1 s1 k2 s2 on off count: of each tone twice the cosine of the angle
+/// by which it turns in a sample, in Q14, and its second sample, in Q15, 0 0 for no tone; how many samples of a cycle sound and how many
+/// don't; and how many cycles there are, 0 for no end. Each sample that it is given gives one: the tones' sum while they sound, and itself
+/// while they don't. A reset begins the cadence.
 pub type Signal = Recursive<Generator>;
 
 /// What a generator makes of a sample.

@@ -5,8 +5,8 @@ ghost use Rattle.alg_signal.specs.Tones.{cadence_named, given, is_over, moved, n
 use crate::{ONE, STATE_WORDS};
 use basic_op::{add, l_msu, l_mult, l_shl, negate, round};
 
-/// What is to sound: of each tone the factor in Q14 and the second sample in Q15, how many samples of a cycle sound and how many don't, and how
-/// many cycles there are, 0 for no end.
+/// What is to sound: of each tone the factor in Q14 and the second sample in Q15, how many samples of a cycle sound and how many don't, and
+/// how many cycles there are, 0 for no end.
 #[derive(Clone, Copy, PartialEq, Eq, Debug)]
 pub struct Cadence {
     pub k1: i16,

@@ -166,8 +166,8 @@ impl Tuning {
         (factor * v) >> FACTOR_BITS
     }
 
-    /// The value after a quiet one where it is quiet too, and None where it isn't. Both values are those of words: a word of 16 bits would be extended
-    /// anew at each sample.
+    /// The value after a quiet one where it is quiet too, and None where it isn't. Both values are those of words: a word of 16 bits would
+    /// be extended anew at each sample.
     #[inline]
     fn quiet_value(self, v1: i32, v2: i32, x: i16) -> Option<i32>
         requires shifts { pos 1 ≤ℤ self.shift }
@@ -264,8 +264,11 @@ fn run_quiet(tuning: Tuning, start: Frame, input: &[i16]) -> Values
     ensures count { result.count ≤ length input.now }
     ensures fit { (k : ℕ) → k < result.count → FitsSigned w16 (word_at input.now k) }
     ensures law { (p : List ℤ) (h : History) → IsTuned p h tuning → IsFrame p h start → samples_in_frame (frame_length p) h + length input.now < frame_length p
-        → Gives p h (take result.count input.now)
-        (record { samples = pos (samples_in_frame (frame_length p) h + result.count); v1 = result.v1; v2 = result.v2 }) [] }
+        → Gives p h (take result.count input.now) (record {
+          samples = pos (samples_in_frame (frame_length p) h + result.count);
+          v1 = result.v1;
+          v2 = result.v2;
+        }) [] }
 {
     let mut v1 = i32::from(start.v1);
     let mut v2 = i32::from(start.v2);

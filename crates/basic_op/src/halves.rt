@@ -1,5 +1,5 @@
-//! Sums by halves of their values: no step overflows, each is limited by itself as the operators limit it, and what is rounded is the same. Half
-//! of what `L_mult` gives is the plain product, unless both factors are -32768.
+//! Sums by halves of their values: no step overflows, each is limited by itself as the operators limit it, and what is rounded is the same.
+//! Half of what `L_mult` gives is the plain product, unless both factors are -32768.
 ghost use Rattle.std.specs.Prelude.{◌≡◌, ◌≤◌, ◌⊎◌, ◌^◌, ℤ, pos, unsigned_abs};
 ghost use Rattle.std.specs.Int.{saturate_to_bits};
 ghost use Rattle.basic_op.specs.Operators.{l_mac_of, l_msu_of, l_mult_of, l_shl_of, round_of};

@@ -5,8 +5,8 @@
 //! named as in the standard but in lower case, and each saturates where the standard's does: its clause gives the
 //! value as a function of whole numbers. The flags Overflow and Carry are left out.
 //!
-//! Beside them stand the whole product of two words, and sums by halves: a step of `half_mac` is what a step of `l_mac` is, of half of the sum, and has
-//! neither a doubling nor a test for overflow.
+//! Beside them stand the whole product of two words, and sums by halves: a step of `half_mac` is what a step of `l_mac` is, of half of the
+//! sum, and has neither a doubling nor a test for overflow.
 #![tactic(auto)]
 
 mod halves;

@@ -3,7 +3,7 @@ use Rattle.std.proofs.Common.{◌≡◌, ◌≤◌, ◌<◌, ℕ, ℤ, Bool, tru
 use Rattle.std.specs.Prelude.{not, ◌&&◌, is_some, nat_eq, nat_lt}
 use Rattle.std.proofs.Math.Seq.{drop-append_seam}
 use Rattle.std.proofs.lemmas.Bool.{or_left}
-use Rattle.std.proofs.lemmas.Option.{none-some}
+use Rattle.std.proofs.lemmas.Option.{none-some, same_Some}
 use Rattle.mem_rec.specs.declared.Space.{Space}
 use Rattle.ialg.specs.declared.refusal.Refusal.{Refusal}
 use Rattle.ialg.specs.declared.refusal.Refusal.TheVariants.{Range, Taken, Missing, Command, Long, Short}
@@ -46,9 +46,6 @@ heard_outputs c (Output d octets ∷ reply ∷ written) =
     ∙ ap (λ o. held_by (Some c) (order_of (Output d octets ∷ reply ∷ [])) ++ o) (heard_outputs c written)
     ∙ sym (held_more c (Output d octets ∷ reply ∷ []) written)
 
-some_same : {A : Type 0} (a b : A) → Some a ≡ Some b → a ≡ b
-some_same a b e = cc
-
 module _ {M : Type 0} (kinds : Meaning M) (poison other : Option ℤ) (lawful : AreLawful kinds poison) (also : AreLawful kinds other) where
   -- ---- creations
 
@@ -60,7 +57,7 @@ module _ {M : Type 0} (kinds : Meaning M) (poison other : Option ℤ) (lawful : 
       → born q i kind p takes one ≡ born q i kind p takes two
   born_one q i kind p false one two e = refl
   born_one q i kind p true None None e = refl
-  born_one q i kind p true (Some s) (Some t) e = ap (λ space. born q i kind p true (Some space)) (some_same s t e)
+  born_one q i kind p true (Some s) (Some t) e = ap (λ space. born q i kind p true (Some space)) (same_Some s t e)
   born_one q i kind p true None (Some t) e = absurd (none-some t e)
   born_one q i kind p true (Some s) None e = absurd (none-some s (sym e))
 
@@ -149,7 +146,7 @@ module _ {M : Type 0} (kinds : Meaning M) (poison other : Option ℤ) (lawful : 
   passes_one [] q block o u s t a b = (a.0 ∙ sym b.0, a.1 ∙ sym b.1)
   passes_one (i ∷ is) q [] o u s t a b = (a.0 ∙ sym b.0, a.1 ∙ sym b.1)
   passes_one (i ∷ is) q (x ∷ block) o u s t a b =
-      let same : b.0 ≡ a.0 = some_same b.0 a.0 (sym b.2 ∙ a.2) in
+      let same : b.0 ≡ a.0 = same_Some b.0 a.0 (sym b.2 ∙ a.2) in
       let gives = subst (λ (y : Playing M). sounding.MayGive kinds other y (x ∷ block) b.1) same b.3 in
       let rest = subst (λ (y : Playing M). Passes kinds other is (with_instance q i (Some (record y { history = with_samples y.history (x ∷ block) }))) b.1 u t) same b.4 in
       let given : b.1 ≡ a.1 = sym (given_one a.0 (x ∷ block) a.1 b.1 a.3 gives) in

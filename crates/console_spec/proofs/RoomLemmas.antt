@@ -33,6 +33,7 @@ use Rattle.channel_spec.specs.Parts.{with_members, on_host, chain_refusal, delet
 use Rattle.channel_spec.specs.Calls.{Call, Does, refusal_of}
 use Rattle.channel_spec.specs.Calls.Call.{Chain, Unchain, Remove, Ready, Feed, OfHost}
 use Rattle.console_spec.specs.Room.{FallsShort, HasNoPlace, IsCreation, LacksRoom}
+use Rattle.host_spec.proofs.RunLemmas.{none_there, ok_same}
 
 -- ---- places
 
@@ -82,9 +83,6 @@ module _ (words : ℕ) (taken : List Stretch) (size : ℕ) where
 
 pub ok_is_no_err : {A E : Type 0} (a : A) (r : E) → ◌≡◌ {A = Result A E} (Ok a) (Err r) → ⊥
 ok_is_no_err a r e = cc
-
-ok_same : {A E : Type 0} (a b : A) → ◌≡◌ {A = Result A E} (Ok a) (Ok b) → a ≡ b
-ok_same a b e = cc
 
 pub err_same : {A E : Type 0} (r s : E) → ◌≡◌ {A = Result A E} (Err r) (Err s) → r ≡ s
 err_same r s e = cc
@@ -211,10 +209,6 @@ module _ {M : Type 0} (kinds : Meaning M) (before after : State M) (i : ℕ) (ki
   wants true true table e = absurd (no_taken (ap (λ o. o.0) e))
   wants true false table e = record { in_range = refl; absent = refl; unmet = unmet table e }
 
-is_none_then : {A : Type 0} (o : Option A) → is_some o ≡ false → o ≡ None
-is_none_then None e = refl
-is_none_then (Some x) e = cc
-
 module _ {M : Type 0} (kinds : Meaning M) (before after : State M) (i g : ℕ) (kind : M) (p : List ℤ) (answer : Result (Unit {0}) Refusal) (space : Space)
     (does : host_calls.Creates kinds before i kind g p answer after) (known : IsTrue (tells_memory kinds before.poison kind p)) where
   lacks : answer ≡ Err (Room space) → LacksRoom kinds before i kind g p space
@@ -224,7 +218,7 @@ module _ {M : Type 0} (kinds : Meaning M) (before after : State M) (i g : ℕ) (
       let both = both_true (is_instance_number i) (is_group_number g) w.in_range in (
         ltb-true i INSTANCES both.0,
         ltb-true g GROUPS both.1,
-        is_none_then (before.living i) w.absent,
+        none_there (before.living i) w.absent,
         w.unmet.records,
         sym (does.asked.told known) ∙ w.unmet.asked,
         let sharers = sharers_of kinds before.living (newborn kind g p w.unmet.records) in

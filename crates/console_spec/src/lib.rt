@@ -1,6 +1,6 @@
 // SPDX-License-Identifier: Apache-2.0
-//! What a console does with the lines of a script, as a machine over plain values; whole runs of the machines, calls of channels as calls of
-//! their host, and each instance from its creation on; and the main theorem of such runs.
+//! What a console does with the lines of a script, as a machine over plain values; whole runs of the machines, calls of channels as calls
+//! of their host, and each instance from its creation on; and the main theorem of such runs.
 #![tactic(auto)]
 
 mod laws;

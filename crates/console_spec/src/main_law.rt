@@ -9,8 +9,8 @@ use crate::runs::{creations_alone_lack_room, refused_lines_change_nothing};
 /// instances did, even ones that break IALG's laws; only creation is refused for space, exactly where no place is free, and a refused
 /// command changes no instance, channel or place. A feed that is refused as short uses up what is left of its input.
 ///
-/// What a feed is given are the first samples that are left of its channel's input, where that input is honest, whatever the others are. Of one that isn't
-/// each feed may be given any samples, or be refused as short.
+/// What a feed is given are the first samples that are left of its channel's input, where that input is honest, whatever the others are. Of
+/// one that isn't each feed may be given any samples, or be refused as short.
 ///
 /// So it is of each instance that was ever created, as long as it lived, and up to each line: the first lines have the headline by
 /// themselves (`first`).
@@ -32,8 +32,8 @@ pub fn answers_have_sounds<M>()
     ensures { AnswersHaveSounds M }
 {}
 
-/// The law that sounds are one where all kinds are lawful: from one state, a line asks one thing and leads to one state, but for the numbers of
-/// commands about memory, where the same creations lack room; and a block gives one output. The call does nothing.
+/// The law that sounds are one where all kinds are lawful: from one state, a line asks one thing and leads to one state, but for the
+/// numbers of commands about memory, where the same creations lack room; and a block gives one output. The call does nothing.
 pub fn sounds_are_one<M>()
     ensures runs { SoundsAreOne M }
     ensures silence { SilenceIsNoAnswer M }

@@ -8,8 +8,8 @@ pub fn calls_run_on_the_host<M>()
     ensures run { CallsRunOnTheHost M }
 {}
 
-/// The law that a lawful instance goes by what it was given since its creation, as long as it isn't deleted, whatever was called before, and
-/// whatever else is called; that a control of it is granted by kind, parameters and control alone; and that a block of samples has no
+/// The law that a lawful instance goes by what it was given since its creation, as long as it isn't deleted, whatever was called before,
+/// and whatever else is called; that a control of it is granted by kind, parameters and control alone; and that a block of samples has no
 /// answer that refuses it. The call does nothing.
 pub fn births_go_by_their_histories<M>()
     ensures born { BirthsGoByTheirHistories M }
@@ -24,16 +24,16 @@ pub fn births_agree<M>()
 {}
 
 /// The law that what a console does with lines is a run of calls of its channels, which the lines' commands make: a feed is refused, or
-/// short, or given as many samples as it asks for, the first that are left of its channel's input where that is honest; and what feeds give is the
-/// channel's output. The call does nothing.
+/// short, or given as many samples as it asks for, the first that are left of its channel's input where that is honest; and what feeds give
+/// is the channel's output. The call does nothing.
 pub fn lines_are_calls<M>()
     ensures { LinesAreCalls M }
 {
     channel_spec::refused_calls_change_nothing::<M>();
 }
 
-/// The law that a feed which isn't short takes just the samples that are next on its channel's input, where that is honest, whatever the other
-/// inputs are. The call does nothing.
+/// The law that a feed which isn't short takes just the samples that are next on its channel's input, where that is honest, whatever the
+/// other inputs are. The call does nothing.
 pub fn honest_feeds_take_what_is_next<M>()
     ensures enough { HonestInputsHaveEnough M }
     ensures block { HonestFeedsTakeTheFirst M }

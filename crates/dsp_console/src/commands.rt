@@ -14,6 +14,7 @@ use voice_channel::Map;
 use voice_script::{Ask, FeedSamples, Members, Reply};
 
 impl<M: Ialg> Console<M> {
+    /// Creates an instance.
     #[inline(never)]
     pub(crate) fn create<'a>(&mut self, i: u8, kind: M, group: u8, parameters: &Params) -> Reply<'a>
         ensures channels { channels_of self.new ≡ channels_of self.old }
@@ -63,6 +64,7 @@ impl<M: Ialg> Console<M> {
         self.control(i, &Ctl::Get, room)
     }
 
+    /// Deletes an instance.
     pub(crate) fn delete<'a>(&mut self, i: u8) -> Reply<'a>
         ensures channels { channels_of self.new ≡ channels_of self.old }
         ensures widths { self.new.widths ≡ self.old.widths }
@@ -71,6 +73,7 @@ impl<M: Ialg> Console<M> {
         tell_done(self.channels.delete(i))
     }
 
+    /// Makes a channel of these members.
     pub(crate) fn chain<'a>(&mut self, c: u8, members: &Members) -> Reply<'a>
         ensures channels { channels_of self.new ≡ channels_of self.old }
         ensures widths { self.new.widths ≡ self.old.widths }
@@ -79,6 +82,7 @@ impl<M: Ialg> Console<M> {
         tell_done(self.channels.chain(c, members.as_slice()))
     }
 
+    /// Takes its members from a channel.
     pub(crate) fn unchain<'a>(&mut self, c: u8) -> Reply<'a>
         ensures channels { channels_of self.new ≡ channels_of self.old }
         ensures widths { self.new.widths ≡ self.old.widths }
@@ -101,6 +105,7 @@ impl<M: Ialg> Console<M> {
         }
     }
 
+    /// Packs the blocks of a space: the reply counts the moves.
     pub(crate) fn compact<'a>(&mut self, space: Space) -> Reply<'a>
         ensures channels { channels_of self.new ≡ channels_of self.old }
         ensures widths { self.new.widths ≡ self.old.widths }
@@ -109,6 +114,7 @@ impl<M: Ialg> Console<M> {
         Reply::Count(self.channels.compact(space))
     }
 
+    /// Makes the next move of a space: the reply says whether a block moved.
     pub(crate) fn step<'a>(&mut self, space: Space) -> Reply<'a>
         ensures channels { channels_of self.new ≡ channels_of self.old }
         ensures widths { self.new.widths ≡ self.old.widths }
@@ -117,6 +123,7 @@ impl<M: Ialg> Console<M> {
         Reply::Flag(self.channels.step(space))
     }
 
+    /// Deactivates the active member of a group: the reply says whether there was one.
     pub(crate) fn release<'a>(&mut self, group: u8) -> Reply<'a>
         ensures channels { channels_of self.new ≡ channels_of self.old }
         ensures widths { self.new.widths ≡ self.old.widths }
@@ -134,6 +141,7 @@ impl<M: Ialg> Console<M> {
         Reply::Map(map)
     }
 
+    /// Replies with the active member of a group and its count of activations.
     pub(crate) fn stat<'a>(&self, group: u8) -> Reply<'a>
         ensures asks { TellsOf M.law (Stat group) result self.now self.now }
     {

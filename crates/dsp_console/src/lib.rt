@@ -1,6 +1,6 @@
 // SPDX-License-Identifier: Apache-2.0
-//! Serves a script of commands over ports: instances of algorithms in three spaces of memory, and channels of samples through them. A console
-//! over the channels does what the lines ask, and takes the samples of feeds.
+//! Serves a script of commands over ports: instances of algorithms in three spaces of memory, and channels of samples through them. A
+//! console over the channels does what the lines ask, and takes the samples of feeds.
 #![tactic(auto)]
 
 mod commands;

@@ -12,8 +12,8 @@ use ialg::{BLOCK_SAMPLES, Block, Ialg, Named, Params, Words};
 use voice_channel::{Channels, Map};
 use voice_script::{Ask, BLOCK_OCTETS, Command, FeedSamples, LineMachine, Reply, Width, parse};
 
-/// Passes the samples of the octets, by the width of their port, through a channel: they stand in `input` then, and what the channel gives takes the place of what
-/// `given` held.
+/// Passes the samples of the octets, by the width of their port, through a channel: they stand in `input` then, and what the channel gives
+/// takes the place of what `given` held.
 ///
 /// A call, so that what a feed keeps takes no registers from the other commands.
 #[inline(never)]

@@ -11,6 +11,7 @@ use ialg::{Refusal, Status, Words};
 use voice_channel::Stat;
 use voice_script::Reply;
 
+/// The reply to a call that answers nothing.
 pub(crate) fn tell_done<'a>(answer: Result<(), Refusal>) -> Reply<'a>
     ensures { reply_of result ≡ told_by (λ _. replies.Done) answer }
 {
@@ -20,6 +21,7 @@ pub(crate) fn tell_done<'a>(answer: Result<(), Refusal>) -> Reply<'a>
     }
 }
 
+/// The reply to a control. Words that are answered stay in `room`.
 pub(crate) fn tell_status<'a>(answer: Result<Status, Refusal>, room: &'a mut Words) -> Reply<'a>
     ensures { reply_of result ≡ told_by status_reply (told answer) }
 {
@@ -33,6 +35,7 @@ pub(crate) fn tell_status<'a>(answer: Result<Status, Refusal>, room: &'a mut Wor
     }
 }
 
+/// The reply to a call that answers yes or no.
 pub(crate) fn tell_flag<'a>(answer: Result<bool, Refusal>) -> Reply<'a>
     ensures { reply_of result ≡ told_by replies.Flag answer }
 {
@@ -42,6 +45,7 @@ pub(crate) fn tell_flag<'a>(answer: Result<bool, Refusal>) -> Reply<'a>
     }
 }
 
+/// The reply about a group.
 pub(crate) fn tell_stat<'a>(answer: Result<Stat, Refusal>) -> Reply<'a>
     ensures { reply_of result ≡ told_by (λ s. replies.Stat s.active s.count) (stat_told answer) }
 {

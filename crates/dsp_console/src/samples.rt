@@ -30,6 +30,7 @@ pub(crate) fn write_samples(width: Width, samples: &[i16], octets: &mut [u8])
     }
 }
 
+/// Samples from bytes, the low byte first.
 fn read_words(octets: &[u8], samples: &mut [i16])
     requires { length octets.now ≡ WORD_OCTETS * length samples.old }
     ensures { samples.new ≡ samples_of octets.now }
@@ -37,6 +38,7 @@ fn read_words(octets: &[u8], samples: &mut [i16])
     LittleEndian::read_i16_into(octets, samples);
 }
 
+/// Samples as bytes, the low byte first.
 fn write_words(samples: &[i16], octets: &mut [u8])
     requires { length octets.old ≡ WORD_OCTETS * length samples.now }
     ensures { octets.new ≡ octets_of samples.now }

@@ -133,10 +133,10 @@ fn serve_console<M: Ialg + Named, S: PortIn, I: PortIn, O: PortOut, P: PortOut>(
 ///
 /// After `Read` or `Write` what was served before stands in the outputs and the replies, and the port that failed says so.
 ///
-/// What is served is said of an honest script, and what a feed is given of its own input, where that is honest: of any other input each feed may be
-/// given any samples, or be refused as short. Whether a port is honest is a word of the contract, which the code can't see: so between ports
-/// that behave as honest ones do, of which nothing is proved, as those over files, a run does what it is proved to do between honest ones.
-/// A device that does what no honest port can, as one that gives octets after it ended, is outside of that.
+/// What is served is said of an honest script, and what a feed is given of its own input, where that is honest: of any other input each
+/// feed may be given any samples, or be refused as short. Whether a port is honest is a word of the contract, which the code can't see: so
+/// between ports that behave as honest ones do, of which nothing is proved, as those over files, a run does what it is proved to do between
+/// honest ones. A device that does what no honest port can, as one that gives octets after it ended, is outside of that.
 pub fn run<M: Ialg + Named, S: PortIn, I: PortIn, O: PortOut, P: PortOut>(
     alloc: Global,
     config: Config,

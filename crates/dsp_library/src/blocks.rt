@@ -164,9 +164,9 @@ pub extern "C" fn rokdaum_proved_l_mac_block(v: i32, a: &[i16], b: &[i16], sum: 
     DONE
 }
 
-/// Writes the outputs of a FIR filter: `DONE`, or `BAD_LENGTH`, and then nothing is written. The coefficients are in Q15, that of the newest
-/// sample first. `line` has what came before the block, as many samples as there are coefficients but one, then the block, and after it
-/// as many as fill up 63 more than there are outputs; those aren't read for an output.
+/// Writes the outputs of a FIR filter: `DONE`, or `BAD_LENGTH`, and then nothing is written. The coefficients are in Q15, that of the
+/// newest sample first. `line` has what came before the block, as many samples as there are coefficients but one, then the block, and after
+/// it as many as fill up 63 more than there are outputs; those aren't read for an output.
 #[unsafe(no_mangle)]
 pub extern "C" fn rokdaum_proved_fir(coefficients: &[i16], line: &[i16], out: &mut [i16]) -> i32
     ensures length { ¬ CanFilter coefficients.now line.now out.old → result ≡ BAD_LENGTH }

@@ -135,6 +135,7 @@ fn feed_sample(
     }
 }
 
+/// Feeds a channel, and says how many samples it gives; as many of them as fit are written to `out`.
 #[inline(always)]
 fn feed(machine: &mut Machine, channel: u8, input: &[i16], out: &mut [i16], count: &mut u32) -> i32
     requires some { 1 ≤ length input.now }

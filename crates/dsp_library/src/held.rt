@@ -18,6 +18,7 @@ struct Base {
     at: *mut u8,
 }
 
+/// An address at which nothing stands.
 fn nowhere() -> Base
     ensures { result.at ≡ null_ptr }
 {
@@ -38,6 +39,7 @@ impl Model for Held {
 }
 
 impl Held {
+    /// What is held, of its two parts.
     fn join(parts: Apart<Machine>) -> Held
         ensures { result.machine ≡ Some parts.value }
     {
@@ -48,6 +50,7 @@ impl Held {
         }
     }
 
+    /// What is held at this address.
     fn at_base(base: Base, alloc: Global) -> Held
         requires { base.at ≡ null_ptr }
         ensures { result.machine ≡ None }

@@ -1,9 +1,9 @@
 // SPDX-License-Identifier: Apache-2.0
-//! The library for C, linked as a static library: a host of instances in three spaces, chained into channels, behind a handle that the caller
-//! keeps; and the basic operators, a FIR filter and G.711 on numbers and blocks of samples, which ask for no memory and keep none.
+//! The library for C, linked as a static library: a host of instances in three spaces, chained into channels, behind a handle that the
+//! caller keeps; and the basic operators, a FIR filter and G.711 on numbers and blocks of samples, which ask for no memory and keep none.
 //!
-//! Each function tests what it is given, and answers `DONE` or a code that says why nothing was done. What a call of the host does is said in
-//! terms of the machine of `channel_spec`, which the channels behind the handle keep.
+//! Each function tests what it is given, and answers `DONE` or a code that says why nothing was done. What a call of the host does is said
+//! in terms of the machine of `channel_spec`, which the channels behind the handle keep.
 #![tactic(auto)]
 
 mod blocks;

@@ -17,6 +17,7 @@ use std::io::{self, BufReader, Write};
 /// An IN, which is read through a buffer.
 type Source<'t, F> = Reading<BufReader<InFile<'t, F>>>;
 
+/// The fault that ends the program where a file could not be opened.
 fn fault_of(fault: OpenFault) -> Fault {
     match fault {
         OpenFault::Read => Fault::Read,
@@ -57,7 +58,8 @@ fn open_pairs<'t, 'p, R: Files + AllocGlobal, P: Write>(
     journal: &mut Journal<OutFile<'t, R::File>, P>,
 ) -> Result<(), Fault>
     ensures inputs { IsOk result → length inputs.new.items ≡ length inputs.old.items + length pairs.now }
-    ensures to_read { IsOk result → All IsReadyIn (map (⟦<Source<'t, R::File> as PortIn>⟧.source) inputs.old.items) → All IsReadyIn (map (⟦<Source<'t, R::File> as PortIn>⟧.source) inputs.new.items) }
+    ensures to_read { IsOk result → All IsReadyIn (map (⟦<Source<'t, R::File> as PortIn>⟧.source) inputs.old.items)
+        → All IsReadyIn (map (⟦<Source<'t, R::File> as PortIn>⟧.source) inputs.new.items) }
 {
     let Some(((input, output), further)) = pairs.split_first() else {
         return Ok(());

@@ -47,6 +47,7 @@ fn words_behind_name<R: Env + AllocGlobal>(rt: &R) -> io::Result<Vec<String>> {
     Ok(words)
 }
 
+/// Reads the words behind the program's name, and serves what they ask.
 fn answer_words<M: Ialg + Named, R: Files + Print + Eprint + Env + AllocGlobal>(
     rt: &R,
     about: &About,

@@ -1,5 +1,5 @@
-//! The filter where no sum can saturate: plain sums, in whatever order the vector registers take the products. Each is half of the sum of the
-//! doubled products, and is rounded as such.
+//! The filter where no sum can saturate: plain sums, in whatever order the vector registers take the products. Each is half of the sum of
+//! the doubled products, and is rounded as such.
 ghost use Rattle.std.specs.Prelude.{◌≡◌, ◌⊎◌, ◌↔◌, ◌<◌, ◌≤◌, ◌+◌, ◌-◌, ◌*◌, ◌%◌, ◌+ℤ◌, ◌*ℤ◌, ℕ, length, take, IsTrue};
 ghost use Rattle.std.specs.Int.{int_wrap, w32};
 ghost use Rattle.ialg.specs.History.{word_at};
@@ -14,8 +14,8 @@ use basic_op::{half_round, product};
 /// How many products are summed at once: a loop of so many is unrolled into vector products.
 const LANES: usize = 32;
 
-/// Whether no sum of the filter over these samples can saturate, and a magnitude that none of them exceeds. Of most filters none can, however loud the
-/// samples are: then these aren't looked through.
+/// Whether no sum of the filter over these samples can saturate, and a magnitude that none of them exceeds. Of most filters none can,
+/// however loud the samples are: then these aren't looked through.
 pub(crate) fn bound(coefficients: &[i16], samples: &[i16]) -> (bool, u16)
     requires { length coefficients.now ≤ MOST_COEFFICIENTS }
     ensures bounded { IsTrue result.0 ↔ IsBounded coefficients.now samples.now }
@@ -126,8 +126,8 @@ fn reverse(coefficients: &[i16], taps: &mut [i16])
     }
 }
 
-/// Writes the outputs: each is the sum of the products of all taps with a window of the line, rounded; output `i` is that of the window that begins at
-/// word `first + step * i`. Those that make no whole group are made one by one.
+/// Writes the outputs: each is the sum of the products of all taps with a window of the line, rounded; output `i` is that of the window
+/// that begins at word `first + step * i`. Those that make no whole group are made one by one.
 fn filter_windows(taps: &[i16], line: &[i16], first: usize, step: usize, out: &mut [i16])
     requires size { (length taps.now ≡ LANES) ⊎ (length taps.now ≡ LANES * 2) }
     requires reach { Reaches first step (length out.old) (length taps.now) line.now }

@@ -1,4 +1,5 @@
-//! Sums by halves in vectors of eight lanes, which are two registers where the processor has no wider ones: 32 neighbouring outputs side by side, whose sums stay in registers from the first tap to the last.
+//! Sums by halves in vectors of eight lanes, which are two registers where the processor has no wider ones: 32 neighbouring outputs side by
+//! side, whose sums stay in registers from the first tap to the last.
 ghost use Rattle.std.specs.Prelude.{◌≡◌, ◌<◌, ◌≤◌, ◌+◌, ◌-◌, ◌*◌, ◌%◌, ℕ, ℤ, length, FitsSigned};
 ghost use Rattle.std.specs.Int.{saturate_to_bits, w16, w32};
 ghost use Rattle.basic_op.specs.Operators.{l_mac_of};

@@ -1,5 +1,6 @@
-//! The filter by halves of its sums, where no product is that of -32768 and -32768: each sum takes its products in order, and is limited after each that may take it
-//! beyond a limit. A step has neither a doubling nor a test for overflow, and the sums of a block run side by side in vector registers.
+//! The filter by halves of its sums, where no product is that of -32768 and -32768: each sum takes its products in order, and is limited
+//! after each that may take it beyond a limit. A step has neither a doubling nor a test for overflow, and the sums of a block run side by
+//! side in vector registers.
 ghost use Rattle.std.specs.Prelude.{true, ◌≡◌, ◌<◌, ◌≤◌, ◌+◌, ◌*◌, ◌/◌, ℕ, ℤ, length, FitsSigned};
 ghost use Rattle.std.specs.Int.{w16};
 ghost use Rattle.basic_op.specs.Halves.{half_of};
@@ -213,8 +214,8 @@ fn sum_neighbours(coefficients: &[i16], line: &[i16], first: usize, sums: &mut [
     }
 }
 
-/// The sums of outputs `step` samples apart, as [`sum_neighbours`] has those of neighbours. The samples of a tap are gathered first, so that
-/// they too are side by side.
+/// The sums of outputs `step` samples apart, as [`sum_neighbours`] has those of neighbours. The samples of a tap are gathered first, so
+/// that they too are side by side.
 fn sum_gathered<const N: usize>(
     coefficients: &[i16],
     line: &[i16],
@@ -264,8 +265,9 @@ fn gather(line: &[i16], first: usize, step: usize, on: usize, samples: &mut [i16
     }
 }
 
-/// Adds the products of two coefficients, one with the newer samples and then one with the older, to each sum: so a load of sums serves two taps.
-/// It is a call of its own: where the compiler knows how few sums there can be, or knows the coefficients, it makes no vectors of them.
+/// Adds the products of two coefficients, one with the newer samples and then one with the older, to each sum: so a load of sums serves two
+/// taps. It is a call of its own: where the compiler knows how few sums there can be, or knows the coefficients, it makes no vectors of
+/// them.
 #[inline(never)]
 fn add_products(coefficients: (i16, i16), newer: &[i16], older: &[i16], sums: &mut [Half])
     requires newer_products { HasHalves coefficients.0 newer.now }

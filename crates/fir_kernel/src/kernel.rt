@@ -29,7 +29,8 @@ pub fn filter(coefficients: &[i16], line: &[i16], first: usize, step: usize, out
     }
 }
 
-/// Runs the filter as [`filter`] does, for at most `N` outputs. Where they may saturate, their sums stand in arrays of so many, which are cleared first.
+/// Runs the filter as [`filter`] does, for at most `N` outputs. Where they may saturate, their sums stand in arrays of so many, which are
+/// cleared first.
 fn filter_within<const N: usize>(
     coefficients: &[i16],
     line: &[i16],

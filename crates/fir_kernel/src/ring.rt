@@ -38,8 +38,8 @@ pub fn unroll(words: &[i16], size: usize, next: usize, count: usize, line: &mut 
     }
 }
 
-/// Enters the samples one after the other, each at the place of the oldest, and gives the place of the next one. No other word changes: none is
-/// shifted.
+/// Enters the samples one after the other, each at the place of the oldest, and gives the place of the next one. No other word changes:
+/// none is shifted.
 pub fn enter(words: &mut [i16], size: usize, next: usize, samples: &[i16]) -> usize
     requires size { size ≤ length words.old }
     requires next { next < size }

@@ -1,5 +1,6 @@
-//! Sums by halves in vector registers, that are limited only where a limit can bind: 16 neighbouring outputs side by side. Before each group of eight taps the sums are looked
-//! at: where the products of the group can't take one of them beyond the limits, whatever the samples, those are added together, and else one after the other.
+//! Sums by halves in vector registers, that are limited only where a limit can bind: 16 neighbouring outputs side by side. Before each
+//! group of eight taps the sums are looked at: where the products of the group can't take one of them beyond the limits, whatever the
+//! samples, those are added together, and else one after the other.
 ghost use Rattle.std.specs.Prelude.{true, ◌≡◌, ◌<◌, ◌≤◌, ◌+◌, ◌-◌, ◌*◌, ◌/◌, ◌^◌, ◌+ℤ◌, ◌*ℤ◌, ℕ, ℤ, List, length, FitsSigned};
 ghost use Rattle.std.specs.Int.{w16};
 ghost use Rattle.basic_op.specs.Operators.{l_mac_of};
@@ -27,7 +28,8 @@ pub(crate) const MOST_GROUPS: usize = MOST_COEFFICIENTS / GROUP;
 /// How many words a load has: two for each of four sums.
 const REGISTER: usize = 8;
 
-/// Finds the room of each group of taps, for samples of which none is louder: a sum whose magnitude is below it stays within the limits. Whether one has any.
+/// Finds the room of each group of taps, for samples of which none is louder: a sum whose magnitude is below it stays within the limits.
+/// Whether one has any.
 pub(crate) fn find_rooms(coefficients: &[i16], loudest: u16, rooms: &mut [u32]) -> bool
     requires few { length coefficients.now / 8 ≤ length rooms.old }
     ensures some { result ≡ true → GROUP ≤ length coefficients.now }
@@ -58,8 +60,9 @@ fn room_of(taps: &[i16], loudest: u16) -> u32
     }
 }
 
-/// Writes the sums of 16 neighbouring outputs by halves, that at sample `first` first, from sum `at` on. The registers have those at the samples `first`, `first + 2`, ..,
-/// `first + 6`, those between, and those eight behind both: so one load has the samples of two taps for each sum.
+/// Writes the sums of 16 neighbouring outputs by halves, that at sample `first` first, from sum `at` on. The registers have those at the
+/// samples `first`, `first + 2`, .., `first + 6`, those between, and those eight behind both: so one load has the samples of two taps for
+/// each sum.
 #[inline(never)]
 pub(crate) fn sum_sixteen(
     coefficients: &[i16],

@@ -34,8 +34,8 @@ const LEAST_WORD: i32 = -(1 << 15);
 /// The greatest word.
 const MOST_WORD: i32 = (1 << 15) - 1;
 
-/// Writes the outputs that are made by whole groups of eight: each is the sum of the products of all taps with a window, rounded. The first window begins
-/// at word `first` of the line, and each other one `step` words behind the one before. There are 32 taps or 64.
+/// Writes the outputs that are made by whole groups of eight: each is the sum of the products of all taps with a window, rounded. The first
+/// window begins at word `first` of the line, and each other one `step` words behind the one before. There are 32 taps or 64.
 pub(crate) fn filter_groups(taps: &[i16], line: &[i16], first: usize, step: usize, out: &mut [i16])
     requires words { (k : ℕ) → FitsSigned w16 (word_at taps.now k) }
     requires samples { (k : ℕ) → FitsSigned w16 (word_at line.now k) }
@@ -53,8 +53,8 @@ pub(crate) fn filter_groups(taps: &[i16], line: &[i16], first: usize, step: usiz
     }
 }
 
-/// Writes the outputs of windows side by side. Where the step is known, no address but one is computed for eight windows; where the number of registers is, they have
-/// the taps of all eight.
+/// Writes the outputs of windows side by side. Where the step is known, no address but one is computed for eight windows; where the number
+/// of registers is, they have the taps of all eight.
 #[inline(never)]
 fn filter_beside<const REGISTERS: usize>(taps: &[i16], line: &[i16], first: usize, out: &mut [i16])
     requires words { (k : ℕ) → FitsSigned w16 (word_at taps.now k) }
@@ -193,7 +193,8 @@ pub(crate) fn read_words(words: &[i16])
     }
 }
 
-/// Adds the products of 16 taps with the samples from word `at` of the line on, two to each lane: the compiler makes one instruction of it, or two.
+/// Adds the products of 16 taps with the samples from word `at` of the line on, two to each lane: the compiler makes one instruction of it,
+/// or two.
 #[inline(always)]
 fn add_products(sums: i32x8, taps: &[i16], line: &[i16], at: usize) -> i32x8
     requires words { (k : ℕ) → FitsSigned w16 (word_at taps.now k) }

@@ -1,5 +1,6 @@
 // SPDX-License-Identifier: Apache-2.0
-//! The console over the kinds of a voice gateway. The command line, the replies, the outputs and the exit status are those of `dsp_console`.
+//! The console over the kinds of a voice gateway. The command line, the replies, the outputs and the exit status are those of
+//! `dsp_console`.
 #![tactic(auto)]
 
 use dsp_program::{About, program};

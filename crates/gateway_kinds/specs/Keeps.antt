@@ -43,52 +43,52 @@ use Rattle.alg_activity.specs.Keeps as heard
 use Rattle.gateway_kinds.specs.Kinds.{Canceling, Kind, kind_meaning, gain_filter, level_filter, echo_filter, adpcm_filter, signal_filter, activity_filter}
 
 abbrev pub gain_idle : Relation (Mapped Amplifier)
-gain_idle _ p rs wss h = filters.IsIdle GAIN_KIND (gain_filter.memory p) (Maps is_factor p h) rs wss
+gain_idle _ p rs wss l = filters.IsIdle GAIN_KIND (gain_filter.memory p) (Maps is_factor p l.history) rs wss
 
 abbrev pub gain_active : Relation (Mapped Amplifier)
-gain_active _ p rs wss h = filters.IsActive GAIN_KIND (gain_filter.memory p) (λ kept running. Maps is_factor p h kept) rs wss
+gain_active _ p rs wss l = filters.IsActive GAIN_KIND (gain_filter.memory p) (λ kept running. Maps is_factor p l.history kept) rs wss
 
 abbrev pub level_idle : Relation (Framed Meter)
-level_idle _ p rs wss h = filters.IsIdle LEVEL_KIND (level_filter.memory p) (RestsInFrame SUM_WORDS is_meter energy_words p h) rs wss
+level_idle _ p rs wss l = filters.IsIdle LEVEL_KIND (level_filter.memory p) (RestsInFrame SUM_WORDS is_meter energy_words p l.history) rs wss
 
 abbrev pub level_active : Relation (Framed Meter)
-level_active _ p rs wss h = filters.IsActive LEVEL_KIND (level_filter.memory p) (RunsInFrame SUM_WORDS is_meter energy_words p h) rs wss
+level_active _ p rs wss l = filters.IsActive LEVEL_KIND (level_filter.memory p) (RunsInFrame SUM_WORDS is_meter energy_words p l.history) rs wss
 
 abbrev pub dtmf_idle : Relation Dtmf
-dtmf_idle _ p rs wss h = filters.IsIdle DTMF_KIND (dtmf_memory p) (dtmf.Rests p h) rs wss
+dtmf_idle _ p rs wss l = filters.IsIdle DTMF_KIND (dtmf_memory p) (dtmf.Rests p l.history) rs wss
 
 abbrev pub dtmf_active : Relation Dtmf
-dtmf_active _ p rs wss h = filters.IsActive DTMF_KIND (dtmf_memory p) (dtmf.Runs p h) rs wss
+dtmf_active _ p rs wss l = filters.IsActive DTMF_KIND (dtmf_memory p) (dtmf.Runs p l.history) rs wss
 
 abbrev pub echo_idle : Relation Canceling
-echo_idle _ p rs wss h = filters.IsIdle ECHO_KIND (echo_filter.memory p) (RestsInSteps two_samples echo.state_words is_canceller echo.words_of p h) rs wss
+echo_idle _ p rs wss l = filters.IsIdle ECHO_KIND (echo_filter.memory p) (RestsInSteps two_samples echo.state_words is_canceller echo.words_of p l.history) rs wss
 
 abbrev pub echo_active : Relation Canceling
-echo_active _ p rs wss h = filters.IsActive ECHO_KIND (echo_filter.memory p) (RunsInSteps two_samples echo.state_words is_canceller echo.words_of p h) rs wss
+echo_active _ p rs wss l = filters.IsActive ECHO_KIND (echo_filter.memory p) (RunsInSteps two_samples echo.state_words is_canceller echo.words_of p l.history) rs wss
 
 abbrev pub adpcm_idle : Relation (Recursive Coding)
-adpcm_idle _ p rs wss h =
-    filters.IsIdle adpcm_words.ADPCM_KIND (adpcm_filter.memory p) (RestsByRecursion adpcm.initial_state adpcm.taken adpcm_words.STATE_WORDS coder_named coder.words_of p h) rs wss
+adpcm_idle _ p rs wss l =
+    filters.IsIdle adpcm_words.ADPCM_KIND (adpcm_filter.memory p) (RestsByRecursion adpcm.initial_state adpcm.taken adpcm_words.STATE_WORDS coder_named coder.words_of p l.history) rs wss
 
 abbrev pub adpcm_active : Relation (Recursive Coding)
-adpcm_active _ p rs wss h =
-    filters.IsActive adpcm_words.ADPCM_KIND (adpcm_filter.memory p) (RunsByRecursion adpcm.initial_state adpcm.taken adpcm_words.STATE_WORDS coder_named coder.words_of p h) rs wss
+adpcm_active _ p rs wss l =
+    filters.IsActive adpcm_words.ADPCM_KIND (adpcm_filter.memory p) (RunsByRecursion adpcm.initial_state adpcm.taken adpcm_words.STATE_WORDS coder_named coder.words_of p l.history) rs wss
 
 abbrev pub signal_idle : Relation (Recursive Generator)
-signal_idle _ p rs wss h =
-    filters.IsIdle signal_words.SIGNAL_KIND (signal_filter.memory p) (RestsByRecursion tones.initial_tones tones.taken signal_words.STATE_WORDS tones.cadence_named tones.words_of p h) rs wss
+signal_idle _ p rs wss l =
+    filters.IsIdle signal_words.SIGNAL_KIND (signal_filter.memory p) (RestsByRecursion tones.initial_tones tones.taken signal_words.STATE_WORDS tones.cadence_named tones.words_of p l.history) rs wss
 
 abbrev pub signal_active : Relation (Recursive Generator)
-signal_active _ p rs wss h =
-    filters.IsActive signal_words.SIGNAL_KIND (signal_filter.memory p) (RunsByRecursion tones.initial_tones tones.taken signal_words.STATE_WORDS tones.cadence_named tones.words_of p h) rs wss
+signal_active _ p rs wss l =
+    filters.IsActive signal_words.SIGNAL_KIND (signal_filter.memory p) (RunsByRecursion tones.initial_tones tones.taken signal_words.STATE_WORDS tones.cadence_named tones.words_of p l.history) rs wss
 
 abbrev pub activity_idle : Relation (Stepped Detector)
-activity_idle _ p rs wss h =
-    filters.IsIdle activity_words.ACTIVITY_KIND (activity_filter.memory p) (RestsInSteps talk.frame_length heard.state_words talk.is_detector heard.words_of p h) rs wss
+activity_idle _ p rs wss l =
+    filters.IsIdle activity_words.ACTIVITY_KIND (activity_filter.memory p) (RestsInSteps talk.frame_length heard.state_words talk.is_detector heard.words_of p l.history) rs wss
 
 abbrev pub activity_active : Relation (Stepped Detector)
-activity_active _ p rs wss h =
-    filters.IsActive activity_words.ACTIVITY_KIND (activity_filter.memory p) (RunsInSteps talk.frame_length heard.state_words talk.is_detector heard.words_of p h) rs wss
+activity_active _ p rs wss l =
+    filters.IsActive activity_words.ACTIVITY_KIND (activity_filter.memory p) (RunsInSteps talk.frame_length heard.state_words talk.is_detector heard.words_of p l.history) rs wss
 
 abbrev pub IsIdle : Relation Kind
 IsIdle k =

@@ -24,8 +24,8 @@ pub type Sets = Or<Voice, Or<Gain, Or<Level, Or<Dtmf, Or<Echo, Or<Adpcm, Or<Sign
 /// A kind that a gateway hosts: `fir`, `decim`, `biquad`, `tone`, `g711`, `gain`, `level`, `dtmf`, `echo`, `adpcm`, `signal` or
 /// `activity`. Each call is that of the kind.
 ///
-/// It is a struct and not an alias of its sets, so that what is built over a gateway's kinds, as the library for C is, is checked over one type, and
-/// not over each set again.
+/// It is a struct and not an alias of its sets, so that what is built over a gateway's kinds, as the library for C is, is checked over one
+/// type, and not over each set again.
 #[derive(Clone, Copy, PartialEq, Eq, Debug)]
 pub struct GatewayKind {
     pub kind: Sets,

@@ -1,6 +1,6 @@
 // SPDX-License-Identifier: Apache-2.0
-//! The kinds of a voice gateway as one set: the hosted kinds, gains, meters of energy, detectors of dialled digits, line echo cancellers, ADPCM
-//! coders, generators of tones and detectors of voice activity.
+//! The kinds of a voice gateway as one set: the hosted kinds, gains, meters of energy, detectors of dialled digits, line echo cancellers,
+//! ADPCM coders, generators of tones and detectors of voice activity.
 #![tactic(auto)]
 
 mod kind;
@@ -40,6 +40,7 @@ pub fn gateway_kinds_give_their_equations()
     ensures digits { EachGivesBy ⟦<GatewayKind as Ialg>⟧.law.meaning of_dtmf dtmf_gives }
     ensures echoes { EachGivesBy ⟦<GatewayKind as Ialg>⟧.law.meaning of_echo (gives_in_steps two_samples cleared) }
     ensures codes { EachGivesBy ⟦<GatewayKind as Ialg>⟧.law.meaning of_adpcm (λ p. gives_of adpcm.initial_state adpcm.taken (tuning_by coder_named p)) }
-    ensures tones { EachGivesBy ⟦<GatewayKind as Ialg>⟧.law.meaning of_signal (λ p. gives_of tones.initial_tones tones.taken (tuning_by tones.cadence_named p)) }
+    ensures tones { EachGivesBy ⟦<GatewayKind as Ialg>⟧.law.meaning of_signal
+        (λ p. gives_of tones.initial_tones tones.taken (tuning_by tones.cadence_named p)) }
     ensures talk { EachGivesBy ⟦<GatewayKind as Ialg>⟧.law.meaning of_activity (gives_in_steps frame_length activity) }
 {}

@@ -16,7 +16,7 @@ use Rattle.host_shared.specs.declared.locations.Locations.{Locations}
 use Rattle.host_table.specs.Table.{slot_at, activity_at}
 use Rattle.host_map.specs.Activity.{Activity, deactivated, with_at}
 use Rattle.host_shared.specs.Locations.{shared_at}
-use Rattle.host_table.specs.Refinement.{SlotsRefine, SlotRefines, with_history}
+use Rattle.host_table.specs.Refinement.{HistoriesRefine, SlotRefines, with_history}
 use Rattle.host_map.specs.declared.parts.Sizes.{Sizes}
 use Rattle.host_spaces.specs.declared.spaces.Spaces.{Spaces}
 use Rattle.host_map.specs.Creation.{created_map, replaces}
@@ -88,7 +88,7 @@ module _ {M : Type 0} (laws : Laws M) (instances : List (Option (Member M))) (sh
   module _ (instances' : List (Option (Member M))) (sharing' : List Locations) (groups' : List Group) (spaces' : Spaces)
       (others : OtherSlotsSame i instances instances') (new : IsNewborn g kind p table (slot_at instances' i))
       (activity : (k : ℕ) → activity_at groups' k ≡ activity_grown (replaces (map_of spaces) g table) groups g k)
-      (keeps : SlotsRefine laws before.poison instances' sharing' groups' (with_history (λ j. history_of (before.living j)) i []))
+      (keeps : HistoriesRefine laws before.poison instances' sharing' groups' (with_history (λ j. history_of (before.living j)) i []))
       (stays : AreSameSpaces spaces spaces') where
     lives_now : (j : ℕ) → IsLiving (slot_at instances' j) (with_at before.living i (Some (newborn kind g p table)) j)
     lives_now j = elim (eqb_tells j i) [
@@ -124,7 +124,8 @@ module _ {M : Type 0} (laws : Laws M) (instances : List (Option (Member M))) (sh
       tables = record {
         living = lives_now;
         activity = active_now;
-        histories = λ j. subst (λ (h : History). SlotRefines laws before.poison (slot_at instances' j) (shared_at sharing' j) groups' h) (history_now j) (keeps j);
+        histories =
+            (keeps.0, λ j. subst (λ (h : History). SlotRefines laws before.poison (slot_at instances' j) (shared_at sharing' j) groups' (record { history = h; calls = keeps.0 j })) (history_now j) (keeps.1 j));
       };
       map = refl;
       sizes = same_sizes spaces spaces' (λ space. (stays space).region) ∙ kept.sizes;

@@ -10,7 +10,8 @@ use Rattle.host_shared.specs.declared.locations.Locations.{Locations}
 use Rattle.host_map.specs.Activity.{Activity, without_active, with_at}
 use Rattle.host_table.specs.Table.{slot_at, group_of, is_member_of, activity_at}
 use Rattle.host_shared.specs.Locations.{shared_at}
-use Rattle.host_table.specs.Refinement.{SlotsRefine, SlotRefines}
+use Rattle.ialg.specs.Log.{Called}
+use Rattle.host_table.specs.Refinement.{HistoriesRefine, SlotRefines}
 use Rattle.host_spaces.specs.declared.spaces.Spaces.{Spaces}
 use Rattle.host_map.specs.MemoryMap.{MemoryMap}
 use Rattle.host_spaces.specs.MemoryMap.{map_of}
@@ -100,16 +101,25 @@ module _ {M : Type 0} (laws : Laws M) (i : ℕ)
       ∙ ap (λ (a : Activity). with_at (activity_at groups) g (without_active i a) k) (kept.tables.activity g)
       ∙ ap (λ (a : Activity). cond (nat_eq k g) (without_active i (before.activity g)) a) (kept.tables.activity k)
 
-  histories_after : SlotsRefine laws before.poison instances' sharing' groups' (λ j. history_of (others j))
-  histories_after j =
-      elim (eqb_tells j i) [
-        | inl e ↦
-            subst (λ slot. SlotRefines laws before.poison slot (shared_at sharing' j) groups' (history_of (others j)))
-            (sym (ap (slot_at instances') e.1 ∙ ended.gone)) tt
-        | inr e ↦
-            subst (λ living. SlotRefines laws before.poison (slot_at instances' j) (shared_at sharing' j) groups' (history_of living)) (sym (lives_at j e.0))
-            (ended.keeps (λ k. history_of (before.living k)) kept.tables.histories j)
-      ]
+  histories_after : HistoriesRefine laws before.poison instances' sharing' groups' (λ j. history_of (others j))
+  histories_after = (calls, each)
+    where
+      now : HistoriesRefine laws before.poison instances' sharing' groups' (λ k. history_of (before.living k))
+      now = ended.keeps (λ k. history_of (before.living k)) kept.tables.histories
+
+      calls : ℕ → List Called
+      calls = now.0
+
+      each : (j : ℕ) → SlotRefines laws before.poison (slot_at instances' j) (shared_at sharing' j) groups' (record { history = history_of (others j); calls = calls j })
+      each j =
+          elim (eqb_tells j i) [
+            | inl e ↦
+                subst (λ slot. SlotRefines laws before.poison slot (shared_at sharing' j) groups' (record { history = history_of (others j); calls = calls j }))
+                (sym (ap (slot_at instances') e.1 ∙ ended.gone)) tt
+            | inr e ↦
+                subst (λ living. SlotRefines laws before.poison (slot_at instances' j) (shared_at sharing' j) groups' (record { history = history_of living; calls = calls j })) (sym (lives_at j e.0))
+                (now.1 j)
+          ]
 
   asked_is : asked_by (slot_at instances i) ≡ Some (asked_of its.instance)
   asked_is = asked_same (slot_at instances i) (before.living i) (kept.tables.living i) ∙ ap (option_map asked_of) its.lives

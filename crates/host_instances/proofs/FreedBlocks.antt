@@ -29,10 +29,10 @@ use Rattle.host_shared.specs.declared.locations.Locations.{Locations}
 use Rattle.host_shared.specs.Locations.{owner_of, shared_at}
 use Rattle.host_map.specs.Activity.{Activity}
 use Rattle.host_table.specs.Table.{slot_at, group_at, instance_of, is_member_of, activity_at, TablesOk, ArePoisoned}
-use Rattle.host_table.specs.Refinement.{SlotsRefine}
+use Rattle.host_table.specs.Refinement.{HistoriesRefine}
 use Rattle.host_moves.specs.Waiting.{BlockStays, WordsStay}
 use Rattle.host_moves.proofs.Owns.{told_later}
-use Rattle.host_moves.proofs.Seen.{words_seen}
+use Rattle.host_moves.proofs.Seen.{histories_seen}
 use Rattle.host_moves.specs.Standing.{IsPieceThere, AgreeWithMap, table_of}
 use Rattle.host_moves.proofs.Instances.{not_a_group, other_group}
 use Rattle.host_moves.proofs.Owners.{IsAlike, owner_stays, owner_elsewhere}
@@ -103,8 +103,8 @@ module _ {M : Type 0} (g : ℕ) (instances : List (Option (Member M))) (sharing 
   }
 
   pub keeps_without : (laws : Laws M) (w : Option ℤ) (histories : ℕ → History)
-      → SlotsRefine laws w instances sharing groups histories → SlotsRefine laws w instances sharing groups' histories
-  keeps_without laws w histories keeps = words_seen laws w histories ok words_without keeps
+      → HistoriesRefine laws w instances sharing groups histories → HistoriesRefine laws w instances sharing groups' histories
+  keeps_without laws w histories keeps = histories_seen laws w histories ok words_without keeps
 
   module _ (map : map_of spaces' ≡ without_owners (is_group's g) (map_of spaces))
       (beside : (o : Owner) (space : Space) → o ≢ GroupScratch g → owned o (blocks_in (map_of spaces') space) ≡ owned o (blocks_in (map_of spaces) space))

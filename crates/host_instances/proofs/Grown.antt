@@ -35,7 +35,7 @@ use Rattle.host_shared.specs.Locations.{location_at, locations_at, owner_of, sha
 use Rattle.host_table.specs.Table.{slot_at, group_at, instance_of, AreHeld}
 use Rattle.host_table.proofs.Leasts.{least_stays, together_members}
 use Rattle.host_table.proofs.Together.{owner_lives}
-use Rattle.host_moves.proofs.Sharing.{owner_same}
+use Rattle.host_table.proofs.Leasts.{owner_same}
 use Rattle.host_table.specs.Frames.{IsSameMember, SameMembers}
 use Rattle.host_moves.specs.Standing.{IsPieceThere, IsOf, AreOrdered, table_of}
 use Rattle.host_moves.proofs.Owners.{owner_by_same, alike_same, owner_elsewhere, owner_stays, before, none_before, member_before, pieces_none, is_of_same, none_same, align_same, standing_stays}

@@ -33,7 +33,7 @@ use Rattle.host_shared.proofs.Stands.{seen_here}
 use Rattle.host_table.proofs.Held.{owners_of_held, alike_back}
 use Rattle.host_shared.proofs.Handing.{next_of, next_is, without_apart, without_held, next_here, next_there}
 use Rattle.host_table.proofs.Together.{sharers}
-use Rattle.host_moves.proofs.Sharing.{owner_same}
+use Rattle.host_table.proofs.Leasts.{owner_same}
 use Rattle.host_moves.specs.Standing.{IsPieceThere, AgreeWithMap, table_of}
 use Rattle.host_moves.proofs.Owners.{owner_record, lasting_alike, no_record, piece_alike, record_alike, renamed_record}
 use Rattle.host_moves.proofs.Instances.{other_instance, not_a_group}

@@ -35,7 +35,8 @@ use Rattle.host_shared.specs.Joining.{sharer_at, piece_joined, pieces_joined, lo
 use Rattle.host_table.proofs.Held.{owners_of_held}
 use Rattle.host_table.proofs.Sharing.{IsLeastSharer}
 use Rattle.host_table.proofs.Together.{owner_lives}
-use Rattle.host_moves.proofs.Sharing.{owner_same, ltb_tells, not_equal}
+use Rattle.host_table.proofs.Leasts.{owner_same}
+use Rattle.host_moves.proofs.Sharing.{ltb_tells, not_equal}
 use Rattle.host_moves.specs.Standing.{IsPieceThere, table_of}
 use Rattle.host_moves.proofs.Owners.{owner_record, no_record, renamed_record}
 use Rattle.host_moves.proofs.Instances.{other_instance, not_a_group}

@@ -9,7 +9,7 @@ use Rattle.host_shared.specs.declared.locations.Locations.{Locations}
 use Rattle.host_table.specs.Table.{slot_at, group_of, is_member_of, deactivated_by, TablesOk, ArePoisoned, ActivitiesAre}
 use Rattle.host_map.specs.Sharers.{Asked, sharer_of}
 use Rattle.host_table.specs.Sharers.{asked_by}
-use Rattle.host_table.specs.Refinement.{SlotsRefine}
+use Rattle.host_table.specs.Refinement.{HistoriesRefine}
 use Rattle.host_table.specs.View.{View}
 use Rattle.host_spaces.specs.declared.spaces.Spaces.{Spaces}
 use Rattle.host_spaces.specs.MemoryMap.{copied_in, map_of, sizes_of}
@@ -45,8 +45,8 @@ pub record HasEnded {M : Type 0} (laws : Laws M) (w : Option ℤ) (i : ℕ)
       map_of spaces' ≡ deleted_map (has_members instances' g) (map_of spaces) i g (sharers_among laws.meaning.same instances' (asked_by (slot_at instances i)))
   pub sizes : sizes_of spaces' ≡ sizes_of spaces
   pub copied : copied_in spaces' ≡ copied_in spaces
-  pub keeps : (histories : ℕ → History) → SlotsRefine laws w instances sharing groups histories
-      → SlotsRefine laws w instances' sharing' groups' histories
+  pub keeps : (histories : ℕ → History) → HistoriesRefine laws w instances sharing groups histories
+      → HistoriesRefine laws w instances' sharing' groups' histories
 
 -- the same, of all that the tables hold
 abbrev pub InstanceHasEnded : {M : Type 0} → Laws M → Option ℤ → ℕ → View M → Spaces → View M → Spaces → Type 0

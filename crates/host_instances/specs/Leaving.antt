@@ -13,7 +13,7 @@ use Rattle.host_shared.specs.Locations.{owner_of, shared_at}
 use Rattle.host_table.specs.Table.{slot_at, group_at, instance_of, is_member_of}
 use Rattle.host_shared.specs.Sharing.{AreLeast}
 use Rattle.host_table.specs.Sharers.{AreTogether, asked_by}
-use Rattle.host_table.specs.Refinement.{SlotsRefine}
+use Rattle.host_table.specs.Refinement.{HistoriesRefine}
 use Rattle.host_table.specs.View.{View}
 use Rattle.host_map.specs.declared.placed.Owner.TheVariants.{Record}
 use Rattle.host_map.specs.Blocks.{owned}
@@ -56,5 +56,5 @@ AreBlocksOf g groups pieces = (space : Space) → old_piece pieces space ≡ blo
 
 -- with the one groups and with the others each instance keeps the same history, in a host of any poison word, or of none
 abbrev pub HistoriesStayWith : {M : Type 0} → Laws M → List (Option (Member M)) → List Locations → List Group → List Group → Type 0
-HistoriesStayWith laws instances sharing groups groups' = (w : Option ℤ) (histories : ℕ → History) → SlotsRefine laws w instances sharing groups histories
-    → SlotsRefine laws w instances sharing groups' histories
+HistoriesStayWith laws instances sharing groups groups' = (w : Option ℤ) (histories : ℕ → History) → HistoriesRefine laws w instances sharing groups histories
+    → HistoriesRefine laws w instances sharing groups' histories

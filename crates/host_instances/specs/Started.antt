@@ -25,7 +25,7 @@ use Rattle.host_table.specs.Table.{slot_at, group_at, activity_at, instance_of, 
 use Rattle.host_table.specs.Refinement.{with_history}
 use Rattle.host_table.specs.Sharers.{sharer_in}
 use Rattle.host_table.specs.Starts.{asked_for}
-use Rattle.host_table.specs.Steps.{AreKept}
+use Rattle.host_table.specs.Steps.{HistoriesAreKept}
 use Rattle.host_table.specs.View.{View}
 use Rattle.host_moves.specs.Standing.{table_of}
 use Rattle.host_instances.specs.Growth.{activity_grown}
@@ -79,5 +79,5 @@ ActivityIsGrown n old spaces new = (k : ℕ) → activity_at new.groups k ≡ ac
 abbrev pub BeginsHistoryIn : {M : Type 0} → Laws M → Option ℤ → NewInstance M → View M → View M → Type 0
 BeginsHistoryIn laws w n old new = (histories : ℕ → History)
     → (IsTrue (laws.meaning.lawful n.kind n.params.now.items w) → laws.meaning.table n.kind n.params.now.items ≡ Some (unplaced n.table))
-    → AreKept laws w old histories
-    → AreKept laws w new (with_history histories n.number [])
+    → HistoriesAreKept laws w old histories
+    → HistoriesAreKept laws w new (with_history histories n.number [])

@@ -21,7 +21,8 @@ pub struct HostMemory<M, A: Allocator = Global> {
 }
 
 impl<M: Ialg, A: Allocator + Copy> HostMemory<M, A> {
-    /// The memory of a host with spaces of these sizes: nine requests, two of each space, for its words and its blocks, and one of each table.
+    /// The memory of a host with spaces of these sizes: nine requests, two of each space, for its words and its blocks, and one of each
+    /// table.
     ///
     /// # Errors
     ///

@@ -62,8 +62,8 @@ fn place(
     spaces.place_instance(i, g, table, sharers, &groups[g as usize], poison)
 }
 
-/// Starts an instance whose records are placed, but for those that it shares with its sharers, and whose group has the blocks for it. A shared
-/// block is the new instance's from now on where that one has the lower number.
+/// Starts an instance whose records are placed, but for those that it shares with its sharers, and whose group has the blocks for it. A
+/// shared block is the new instance's from now on where that one has the lower number.
 fn begin<M: Ialg>(
     tables: &mut Tables<M>,
     spaces: &mut Spaces,

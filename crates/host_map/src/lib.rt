@@ -1,9 +1,9 @@
 // SPDX-License-Identifier: Apache-2.0
 //! The memory map of a host, as plain values: which blocks stand in its spaces, whose they are, and where they go.
 //!
-//! A creation adds blocks at their least free places, a deletion takes them away, a move slides one down. Which member of a group is active,
-//! and with which instance a new one shares a write-once record, stand here too. Specification and host both speak in these terms: no word of
-//! a record, no piece of memory and no algorithm is known here.
+//! A creation adds blocks at their least free places, a deletion takes them away, a move slides one down. Which member of a group is
+//! active, and with which instance a new one shares a write-once record, stand here too. Specification and host both speak in these terms:
+//! no word of a record, no piece of memory and no algorithm is known here.
 #![tactic(auto)]
 
 mod parts;

@@ -16,7 +16,7 @@ use Rattle.host_shared.specs.declared.locations.Locations.{Locations}
 use Rattle.host_map.specs.Activity.{Activity, activated, deactivated, with_at}
 use Rattle.host_table.specs.Table.{slot_at, group_at, group_of, instance_of, activity_at, activated_by}
 use Rattle.host_shared.specs.Locations.{shared_at}
-use Rattle.host_table.specs.Refinement.{SlotsRefine, SlotRefines, with_history}
+use Rattle.host_table.specs.Refinement.{HistoriesRefine, SlotRefines, with_history}
 use Rattle.host_table.specs.Frames.{SameSlot, SameTables, IsSameMember, SameMembers}
 use Rattle.host_spec.specs.State.{Living, State}
 use Rattle.host_spec.specs.Choices.{MayGive, MayAnswer}
@@ -24,9 +24,7 @@ use Rattle.host_spec.specs.Steps.{Outcome, activating, processed, release}
 use Rattle.host_spec.specs.Calls.{Processes, Controls}
 use Rattle.host_spec.proofs.OutcomeLemmas.{process_some, release_granted, control_granted, control_command}
 use Rattle.host_moves.specs.Refinement.{IsInstance, IsLiving, history_of, ListsRefine}
-
-some_same : {A : Type 0} (a b : A) → Some a ≡ Some b → a ≡ b
-some_same a b e = cc
+use Rattle.std.proofs.lemmas.Option.{same_Some}
 
 -- the member in a slot, and the instance that it is
 pub record Found {M : Type 0} (slot : Option (Member M)) (living : Option (Living M)) : Type 0 where
@@ -82,9 +80,9 @@ module _ {M : Type 0} where
 
 module _ {M : Type 0} (laws : Laws M) where
   keeps_these : (w : Option ℤ) (instances : List (Option (Member M))) (sharing : List Locations) (groups : List Group) (old new : ℕ → History)
-      → ((i : ℕ) → old i ≡ new i) → SlotsRefine laws w instances sharing groups old → SlotsRefine laws w instances sharing groups new
+      → ((i : ℕ) → old i ≡ new i) → HistoriesRefine laws w instances sharing groups old → HistoriesRefine laws w instances sharing groups new
   keeps_these w instances sharing groups old new same keeps =
-      λ i. subst (λ h. SlotRefines laws w (slot_at instances i) (shared_at sharing i) groups h) (same i) (keeps i)
+      (keeps.0, λ i. subst (λ (h : History). SlotRefines laws w (slot_at instances i) (shared_at sharing i) groups (record { history = h; calls = keeps.0 i })) (same i) (keeps.1 i))
 
   module _ (instances : List (Option (Member M))) (sharing : List Locations) (groups : List Group)
       (instances' : List (Option (Member M))) (sharing' : List Locations) (groups' : List Group) (before : State M) (i : ℕ) where
@@ -96,7 +94,7 @@ module _ {M : Type 0} (laws : Laws M) where
         (its : Found (slot_at instances i) (before.living i)) (h : History)
         (same : SameTables instances sharing groups instances' sharing' groups')
         (activity : (k : ℕ) → activity_at groups' k ≡ activated_by instances groups i k)
-        (keeps : SlotsRefine laws before.poison instances' sharing' groups' (with_history (λ j. history_of (before.living j)) i h)) where
+        (keeps : HistoriesRefine laws before.poison instances' sharing' groups' (with_history (λ j. history_of (before.living j)) i h)) where
       abbrev aged_x : Living M
       aged_x = record its.instance { history = h }
 
@@ -129,12 +127,12 @@ module _ {M : Type 0} (laws : Laws M) where
 
     -- what a call keeps, in a host of this poison word
     abbrev pub KeepsBy : (History → History) → Option ℤ → Type 0
-    KeepsBy longer w = (histories : ℕ → History) → SlotsRefine laws w instances sharing groups histories
-        → SlotsRefine laws w instances' sharing' groups' (with_history histories i (longer (histories i)))
+    KeepsBy longer w = (histories : ℕ → History) → HistoriesRefine laws w instances sharing groups histories
+        → HistoriesRefine laws w instances' sharing' groups' (with_history histories i (longer (histories i)))
 
     -- what a block gives
     abbrev pub GivesBy : List ℤ → List ℤ → Option ℤ → Type 0
-    GivesBy block out w = (histories : ℕ → History) → SlotsRefine laws w instances sharing groups histories
+    GivesBy block out w = (histories : ℕ → History) → HistoriesRefine laws w instances sharing groups histories
         → (m : Member M) → slot_at instances i ≡ Some m → IsLawful laws.meaning (instance_of m.inst) w
         → all_outputs laws.meaning (instance_of m.inst) (with_samples (histories i) block) ≡ all_outputs laws.meaning (instance_of m.inst) (histories i) ++ out
 
@@ -175,7 +173,7 @@ module _ {M : Type 0} (laws : Laws M) where
               record { instance = its.instance; there = its.lives; gives = gives; outcome = refl },
               subst Kept (sym (process_some before i block its.instance its.lives some))
                   (kept_touching kept its h same activity
-                  (subst (λ k. SlotsRefine laws before.poison instances' sharing' groups' (with_history histories i (with_samples k block))) its_history now)),
+                  (subst (λ k. HistoriesRefine laws before.poison instances' sharing' groups' (with_history histories i (with_samples k block))) its_history now)),
             )
 
       given_kept : IsSome (slot_at instances i) → Processes laws.meaning before i block out (processed before i block) × Kept (processed before i block)
@@ -194,8 +192,8 @@ module _ {M : Type 0} (laws : Laws M) where
     pub deactivated_kept : (w : Option ℤ) (g : ℕ) → before.poison ≡ w → ListsRefine laws instances sharing groups before
         → SameTables instances sharing groups instances' sharing' groups'
         → ((k : ℕ) → activity_at groups' k ≡ with_at (activity_at groups) g (deactivated (activity_at groups g)) k)
-        → ((histories : ℕ → History) → SlotsRefine laws w instances sharing groups histories
-        → SlotsRefine laws w instances' sharing' groups' histories)
+        → ((histories : ℕ → History) → HistoriesRefine laws w instances sharing groups histories
+        → HistoriesRefine laws w instances' sharing' groups' histories)
         → Kept (record before { activity = with_at before.activity g (deactivated (before.activity g)) })
     deactivated_kept w g e kept same activity keeps = record {
       living = λ j. same_living (slot_at instances j) (slot_at instances' j) (before.living j) (same.slot j) (kept.living j);
@@ -205,8 +203,8 @@ module _ {M : Type 0} (laws : Laws M) where
           ∙ ap (λ a. cond (nat_eq k g) (deactivated (before.activity g)) a) (kept.activity k);
       histories =
           let histories : ℕ → History = λ j. history_of (before.living j) in
-          subst (λ v. SlotsRefine laws v instances' sharing' groups' histories) (sym e)
-          (keeps histories (subst (λ v. SlotsRefine laws v instances sharing groups histories) e kept.histories));
+          subst (λ v. HistoriesRefine laws v instances' sharing' groups' histories) (sym e)
+          (keeps histories (subst (λ v. HistoriesRefine laws v instances sharing groups histories) e kept.histories));
     }
 
     pub rest_answered : (g : ℕ) (result : Bool) → g < GROUPS → ListsRefine laws instances sharing groups before
@@ -226,7 +224,7 @@ module _ {M : Type 0} (laws : Laws M) where
 
     abbrev pub AnswersBy : Ctl → Status → Option ℤ → Type 0
     AnswersBy c status w = (histories : ℕ → History) (m : Member M) → slot_at instances i ≡ Some m → IsLawful laws.meaning (instance_of m.inst) w
-        → SlotsRefine laws w instances sharing groups histories → status ≡ status_after laws.meaning (instance_of m.inst) (histories i) c
+        → HistoriesRefine laws w instances sharing groups histories → status ≡ status_after laws.meaning (instance_of m.inst) (histories i) c
 
     module _ (kept : ListsRefine laws instances sharing groups before) (its : Found (slot_at instances i) (before.living i)) (c : Ctl) where
       lawful_there : IsTrue (laws.meaning.lawful its.instance.kind its.instance.params before.poison) → IsLawful laws.meaning (instance_of its.member.inst) before.poison
@@ -250,7 +248,7 @@ module _ {M : Type 0} (laws : Laws M) where
 
       one_lives : (taken : Bool) (status : Status) → MayAnswer laws.meaning before.poison its.instance c taken status
           → (x : Living M) → before.living i ≡ Some x → MayAnswer laws.meaning before.poison x c taken status
-      one_lives taken status may x lives = subst (λ y. MayAnswer laws.meaning before.poison y c taken status) (some_same its.instance x (sym its.lives ∙ lives)) may
+      one_lives taken status may x lives = subst (λ y. MayAnswer laws.meaning before.poison y c taken status) (same_Some its.instance x (sym its.lives ∙ lives)) may
 
       control_taken : (status : Status) → i < INSTANCES → TakesBy c true before.poison → AnswersBy c status before.poison
           → SameTables instances sharing groups instances' sharing' groups' → ((k : ℕ) → activity_at groups' k ≡ activated_by instances groups i k)
@@ -266,7 +264,7 @@ module _ {M : Type 0} (laws : Laws M) where
               outcome = sym (control_granted before i c status its.instance lt its.lives);
             },
             kept_touching kept its h same activity
-                (subst (λ k. SlotsRefine laws before.poison instances' sharing' groups' (with_history (λ j. history_of (before.living j)) i (Control c ∷ k))) (ap history_of its.lives)
+                (subst (λ k. HistoriesRefine laws before.poison instances' sharing' groups' (with_history (λ j. history_of (before.living j)) i (Control c ∷ k))) (ap history_of its.lives)
                 (keeps (λ j. history_of (before.living j)) kept.histories)),
           )
 
@@ -306,8 +304,8 @@ module _ {M : Type 0} (laws : Laws M) where
 
     -- the members were told of a move
     pub told_kept : SameMembers instances sharing groups instances' sharing' groups' → ((k : ℕ) → activity_at groups' k ≡ activity_at groups k)
-        → ((w : Option ℤ) (histories : ℕ → History) → SlotsRefine laws w instances sharing groups histories
-        → SlotsRefine laws w instances' sharing' groups' histories)
+        → ((w : Option ℤ) (histories : ℕ → History) → HistoriesRefine laws w instances sharing groups histories
+        → HistoriesRefine laws w instances' sharing' groups' histories)
         → ListsRefine laws instances sharing groups before → Kept before
     told_kept same activity keeps kept = record {
       living = λ j. same_member (slot_at instances j) (slot_at instances' j) (before.living j) (same.slot j) (kept.living j);

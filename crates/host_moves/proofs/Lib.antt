@@ -1,4 +1,6 @@
 pub mod Sharing
+pub mod Logs
+pub mod Hears
 pub mod Owns
 pub mod Seen
 pub mod Slides

@@ -38,6 +38,7 @@ use Rattle.host_moves.proofs.Rooms.{compare, either}
 use Rattle.host_moves.proofs.Owners.{own_owner, owner_record}
 use Rattle.host_moves.proofs.Nexts.{IsIn, owner_among, in_space, later_or, next_piece, slot_of}
 use Rattle.host_moves.proofs.Instances.{piece_there}
+use Rattle.host_table.proofs.Changes.{slot_in}
 
 listed : (bs : List Placed) (b : Placed) (k : ℕ) → k < length bs → get_or bs k b ≡ b → IsIn b (owned b.owner bs)
 listed [] b k lt e = absurd (omega arith)
@@ -58,12 +59,6 @@ lasting_there : (a : Attr) (own shared : Pieces) (k : ℕ) (s : Span) → lastin
 lasting_there Scratch own shared k s e = absurd (none-some _ e)
 lasting_there Persist own shared k s e = piece_there own k s e
 lasting_there WriteOnce own shared k s e = piece_there shared k s e
-
-slot_there : {M : Type 0} (instances : List (Option (Member M))) (i : ℕ) (m : Member M) → slot_at instances i ≡ Some m → i < length instances
-slot_there instances i m at = elim (compare i (length instances)) [
-  | inl lt ↦ lt
-  | inr past ↦ absurd (none-some _ (sym (get_or_past instances i None past) ∙ at))
-]
 
 group_there : (groups : List Group) (g : ℕ) (space : Space) (s : Span) → block_piece (block_in (group_at groups g) space) ≡ Some s → g < length groups
 group_there groups g space s at = elim (compare g (length groups)) [
@@ -91,7 +86,7 @@ module _ {M : Type 0} (instances : List (Option (Member M))) (sharing : List Loc
       let block = in_space i k (record_at (table_of m) k) space p b
       (subst (λ (xs : List Placed). IsIn b xs) (owner_record spaces i (owner_of sharing i) (table_of m) (instance_of m.inst).own (shared_at sharing i) (group_at groups m.group) owner k space i here) among) in
       let piece = next_piece b (Record i k) (record_at (table_of m) k).align p block.1 in
-      let lt = slot_there instances i m slot.1 in
+      let lt = slot_in instances i m slot.1 in
       let count = ok.slot_count in
       ((omega arith), lasting_there (record_at (table_of m) k).attr (instance_of m.inst).own (shared_at sharing i) k piece.0 piece.1.0)
   is_owner (GroupScratch g) b among =

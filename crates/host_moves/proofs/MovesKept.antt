@@ -14,10 +14,14 @@ use Rattle.host_spaces.specs.declared.spaces.Spaces.{Spaces}
 use Rattle.host_map.specs.MemoryMap.{blocks_in, moved_in}
 use Rattle.host_spaces.specs.MemoryMap.{map_of}
 use Rattle.host_moves.specs.Standing.{SlotIsSame}
-use Rattle.host_moves.specs.Moves.{HasMoved}
+use Rattle.host_table.specs.Refinement.{logs_of}
+use Rattle.host_table.proofs.HistoriesGo.{kept_by_logs}
+use Rattle.host_table.proofs.Stepping.{tables}
+use Rattle.host_moves.specs.Moves.{has_words, told_where, HasMoved}
+use Rattle.host_moves.proofs.Logs.{given_where}
 use Rattle.host_spec.specs.State.{Living, State}
 use Rattle.host_spec.specs.Steps.{more_copied, moving, step}
-use Rattle.host_moves.specs.Refinement.{IsLiving}
+use Rattle.host_moves.specs.Refinement.{IsLiving, history_of}
 use Rattle.host_moves.specs.Hosts.{ListsAndSpacesRefine}
 
 pub still_living : {M : Type 0} (slot slot' : Option (Member M)) (living : Option (Living M)) → SlotIsSame slot slot' → IsLiving slot living → IsLiving slot' living
@@ -57,11 +61,14 @@ module _ {M : Type 0} (laws : Laws M) (space : Space)
       → next_block (blocks_in (map_of spaces) space) ≡ Some b
       → HasMoved laws space instances sharing groups spaces instances' sharing' groups' spaces'
       → ListsAndSpacesRefine laws instances' sharing' groups' spaces' (stepped b)
-  keeps_moved {instances'} b next moved = record {
+  keeps_moved {instances'} {sharing'} {groups'} b next moved = record {
     tables = record {
       living = λ i. still_living (slot_at instances i) (slot_at instances' i) (before.living i) (moved.same i) (kept.tables.living i);
       activity = λ g. moved.activity g ∙ kept.tables.activity g;
-      histories = moved.keeps before.poison _ kept.tables.histories;
+      histories =
+          kept_by_logs laws before.poison (tables instances' sharing' groups') (told_where (has_words instances sharing b.owner) (logs_of (λ i. history_of (before.living i)) kept.tables.histories.0))
+          (λ i. history_of (before.living i)) (λ i. given_where (has_words instances sharing b.owner) (logs_of (λ j. history_of (before.living j)) kept.tables.histories.0) i)
+          (moved.keeps b next before.poison (logs_of (λ i. history_of (before.living i)) kept.tables.histories.0) kept.tables.histories.1);
     };
     map = moved.map ∙ ap (λ p. moved_in p space) kept.map;
     sizes = moved.sizes ∙ kept.sizes;

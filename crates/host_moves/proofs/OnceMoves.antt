@@ -35,7 +35,7 @@ use Rattle.host_shared.proofs.Owners.{lent_here, count_seen}
 use Rattle.host_shared.proofs.Lent.{owners_of_all, lent_last, seen_at}
 use Rattle.host_table.proofs.Held.{owners_of_held}
 use Rattle.host_moves.specs.Waiting.{holds_with, slid_to, SameWords, TablesWaiting, WordsStay}
-use Rattle.host_moves.proofs.Slides.{seen_slid, waiting_slid, with_still}
+use Rattle.host_moves.proofs.Slides.{holds_slid, seen_slid, waiting_slid, with_still}
 use Rattle.host_moves.specs.Standing.{IsPieceThere, AreOrdered, AgreeWithMap, table_of}
 use Rattle.host_moves.specs.Moves.{IsNextOf}
 use Rattle.host_moves.proofs.Rooms.{space_itself}
@@ -101,6 +101,10 @@ module _ {M : Type 0} (instances : List (Option (Member M))) (sharing : List Loc
   stands_here =
       here_of (location_at (locations_at sharing i) k) p
       (ap (λ (x : ℕ). piece_here (location_at (locations_at sharing x) k)) (sym its.here) ∙ sym (seen_at sharing i k below) ∙ taken)
+
+  -- each instance has the owner that it had
+  pub holds_now : (q : Span) (j : ℕ) → holds_with (slid_to sharing i k q) i k j ≡ holds_with sharing i k j
+  holds_now q j = holds_slid sharing all_owners i k p q below stands_here j
 
   pub least_now : (q : Span) → AreLeast (slid_to sharing i k q)
   least_now q j l owner is = standing.least j l owner (with_still sharing all_owners i k p q below stands_here j l owner is)

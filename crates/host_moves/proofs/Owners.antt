@@ -33,7 +33,7 @@ use Rattle.host_shared.specs.Locations.{location_at, locations_at, owner_of, sha
 use Rattle.host_table.specs.Table.{slot_at, group_at, instance_of, is_member_of}
 use Rattle.host_table.specs.Frames.{SameSlot, SameMember, IsSameMember, SameMembers, SameTables}
 use Rattle.host_table.proofs.Leasts.{least_stays, together_members}
-use Rattle.host_moves.proofs.Sharing.{owner_same}
+use Rattle.host_table.proofs.Leasts.{owner_same}
 use Rattle.host_moves.specs.Standing.{IsPieceThere, IsOf, AgreeWithMap, table_of, SlotIsSame}
 
 -- a block of the same size and alignment, wherever it lies

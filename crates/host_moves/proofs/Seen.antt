@@ -6,6 +6,7 @@ use Rattle.mem_rec.specs.declared.Space.{Space}
 use Rattle.mem_rec.specs.declared.Attr.{Attr}
 use Rattle.mem_rec.specs.declared.Attr.TheVariants.{Scratch, Persist, WriteOnce}
 use Rattle.ialg.specs.History.{History}
+use Rattle.ialg.specs.Log.{Log}
 use Rattle.ialg.specs.Records.{record_at, words_of}
 use Rattle.ialg.specs.Laws.{Laws}
 use Rattle.record_loans.specs.declared.block.ScratchBlock.{ScratchBlock}
@@ -21,7 +22,7 @@ use Rattle.host_table.specs.declared.member.Member.{Member}
 use Rattle.host_shared.specs.declared.locations.Locations.{Locations}
 use Rattle.host_table.specs.Table.{slot_at, group_at, instance_of, active_in, slot_active_in, IsHoused, TablesOk}
 use Rattle.host_shared.specs.Locations.{shared_at}
-use Rattle.host_table.specs.Refinement.{InstRefines, SlotRefines, SlotsRefine}
+use Rattle.host_table.specs.Refinement.{HistoriesRefine, InstRefines, SlotRefines, SlotsRefine, logs_of}
 use Rattle.host_table.specs.Frames.{InactiveGroupsStay}
 use Rattle.host_moves.specs.Waiting.{SameWords, SlotStays, BlockStays, WordsStay}
 use Rattle.host_moves.specs.Moves.{InactiveWordsStay}
@@ -71,7 +72,7 @@ active_words_seen rs own own' shared shared' y y' o s stays sizes =
     ∙ ap (λ (ws : List ℤ). old 0 ∷ old 1 ∷ ws ∷ new 3 ∷ []) (at 2 (sizes 2))
     ∙ ap (λ (ws : List ℤ). old 0 ∷ old 1 ∷ old 2 ∷ ws ∷ []) (at 3 (sizes 3))
 
-module _ {M : Type 0} (laws : Laws M) (w : Option ℤ) (h : History) where
+module _ {M : Type 0} (laws : Laws M) (w : Option ℤ) (h : Log) where
   inst_seen : (k : ℕ) (a b : Inst M) (o o' : Pieces) (y y' : Group) → active_in k b ≡ active_in k a
       → (instance_of b).kind ≡ (instance_of a).kind → (instance_of b).params ≡ (instance_of a).params → (instance_of b).table ≡ (instance_of a).table
       → SameWords (instance_of a).own (instance_of b).own → SameWords o o'
@@ -97,12 +98,19 @@ module _ {M : Type 0} (laws : Laws M) (w : Option ℤ) (h : History) where
       (λ active space. blocks m.group space active) (housed m refl) keeps)
 
 pub words_seen : {M : Type 0} {instances instances' : List (Option (Member M))} {sharing sharing' : List Locations} {groups groups' : List Group}
-    (laws : Laws M) (w : Option ℤ) (histories : ℕ → History) → TablesOk instances sharing groups
+    (laws : Laws M) (w : Option ℤ) (histories : ℕ → Log) → TablesOk instances sharing groups
     → WordsStay instances sharing groups instances' sharing' groups'
     → SlotsRefine laws w instances sharing groups histories → SlotsRefine laws w instances' sharing' groups' histories
 words_seen {M} {instances} {instances'} {sharing} {sharing'} {groups} {groups'} laws w histories ok stays keeps i =
     slot_seen laws w (histories i) (slot_at instances i) (slot_at instances' i) (shared_at sharing i) (shared_at sharing' i) groups groups' (stays.slot i) (stays.pieces i)
     (λ g space active. stays.blocks g i space active) (λ m at. ok.housed i m at) (keeps i)
+
+-- and so its history
+pub histories_seen : {M : Type 0} {instances instances' : List (Option (Member M))} {sharing sharing' : List Locations} {groups groups' : List Group}
+    (laws : Laws M) (w : Option ℤ) (histories : ℕ → History) → TablesOk instances sharing groups
+    → WordsStay instances sharing groups instances' sharing' groups'
+    → HistoriesRefine laws w instances sharing groups histories → HistoriesRefine laws w instances' sharing' groups' histories
+histories_seen laws w histories ok stays keeps = (keeps.0, words_seen laws w (logs_of histories keeps.0) ok stays keeps.1)
 
 pub words_at_rest : (groups groups' : List Group) → InactiveGroupsStay groups groups' → InactiveWordsStay groups groups'
 words_at_rest groups groups' stay g space none = ap (λ (y : Group). block_words (block_in y space)) (stay g none)

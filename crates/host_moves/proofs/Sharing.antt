@@ -16,6 +16,7 @@ use Rattle.host_shared.specs.Sharing.{AreLeast}
 use Rattle.host_shared.specs.Owners.{IsSameLocation, SameLocations}
 use Rattle.host_table.specs.Table.{slot_at, own_of, instance_of, TablesOk}
 use Rattle.host_table.proofs.Changes.{slot_in}
+use Rattle.host_table.proofs.Leasts.{owner_same}
 use Rattle.host_moves.specs.Waiting.{inst_with, slot_with, own_set, all_but, all_from, holds_with, IsWaiting, IsWaitingBut, TablesWaiting, TablesWaitingBut}
 use Rattle.host_moves.proofs.Owns.{tables_map}
 
@@ -37,13 +38,7 @@ set_as_it_is (x ∷ xs) (suc i) = ap (λ (l : List _). x ∷ l) (set_as_it_is xs
 pub none_back : {M : Type 0} (instances : List (Option (Member M))) (i : ℕ) → own_set instances i (restored None (own_of (slot_at instances i))) ≡ instances
 none_back instances i = ap (set instances i) (slot_as_it_is (slot_at instances i)) ∙ set_as_it_is instances i
 
--- the same locations have the same owners
-pub owner_same : (j : ℕ) (s s' : Location) → IsSameLocation s s' → owner_by j s' ≡ owner_by j s
-owner_same j (Here p) (Here q) same = refl
-owner_same j (Here p) (At h) same = absurd same
-owner_same j (At h) s' same = ap (owner_by j) same
-
-holds_same : (sharing sharing' : List Locations) (i k j : ℕ) → SameLocations sharing sharing' → holds_with sharing' i k j ≡ holds_with sharing i k j
+pub holds_same : (sharing sharing' : List Locations) (i k j : ℕ) → SameLocations sharing sharing' → holds_with sharing' i k j ≡ holds_with sharing i k j
 holds_same sharing sharing' i k j same = ap (λ (x : ℕ). nat_eq x i) (owner_same j (location_at (locations_at sharing j) k) (location_at (locations_at sharing' j) k) (same j k))
 
 -- who waits

@@ -4,7 +4,7 @@ use Rattle.std.proofs.lemmas.Bool.{false≢true}
 use Rattle.std.proofs.lemmas.Bool.Decides.{eqb_tells}
 use Rattle.space_raw.specs.Span.{Span}
 use Rattle.mem_rec.specs.declared.Space.{Space}
-use Rattle.ialg.specs.History.{History}
+use Rattle.ialg.specs.Log.{Log, called, Moved}
 use Rattle.ialg.specs.Laws.{Laws}
 use Rattle.record_loans.specs.declared.pieces.Pieces.{Pieces}
 use Rattle.record_loans.specs.Pieces.{SamePieces}
@@ -23,10 +23,11 @@ use Rattle.host_table.specs.Table.{slot_at, group_at, own_of, instance_of, activ
 use Rattle.host_shared.specs.Locations.{shared_at}
 use Rattle.host_table.specs.Refinement.{InstRefines, SlotRefines, SlotsRefine}
 use Rattle.host_table.specs.Frames.{SameMember, SameMembers}
+use Rattle.host_table.specs.Steps.{called_at}
 use Rattle.lifecycle.proofs.Groups.{same_blocks}
 use Rattle.host_table.proofs.Held.{owners_of_held}
-use Rattle.host_table.proofs.Changes.{tables_by_change, keeps_after_change, blocks_stay, pieces_stay}
-use Rattle.host_table.proofs.Idles.{tables_by_quiet, keeps_after_end}
+use Rattle.host_table.proofs.Changes.{tables_by_change, keeps_after_step, blocks_stay, pieces_stay}
+use Rattle.host_table.proofs.Idles.{tables_by_quiet, keeps_after_call}
 use Rattle.host_table.proofs.Told.{members_after, members_after_quiet}
 use Rattle.host_moves.specs.Waiting.{own_set, slot_with, IsThere, IsWaiting, all_but, TablesThere, TablesBut, TablesWaiting, TablesWaitingBut}
 use Rattle.host_moves.proofs.Owns.{Beside, tables_map, set_again, own_set_same, active_with, but_own, housed_beside, waiting_beside, member_back}
@@ -114,15 +115,15 @@ module _ {M : Type 0} (instances : List (Option (Member M))) (sharing : List Loc
         subst (λ (l : List (Option (Member M))). SameMembers with_piece_back sharing groups l (with_pieces_of sharing i o) groups) (again (Some n))
         (members_after_quiet with_piece_back sharing groups i (member_back back m) n o i_in i_in_once (owners_of_held instances sharing there.held) at_back same pieces)
 
-    pub keeps_of_idle : (laws : Laws M) (w : Option ℤ) (histories : ℕ → History)
+    pub keeps_of_idle : (laws : Laws M) (w : Option ℤ) (histories : ℕ → Log)
         → (InstRefines laws w (member_back back m).inst (shared_at sharing i) (group_at groups m.group) (histories i)
-        → SlotRefines laws w (Some n) o groups (histories i))
+        → SlotRefines laws w (Some n) o groups (called Moved (histories i)))
         → SlotsRefine laws w with_piece_back sharing groups histories
-        → SlotsRefine laws w (set instances i (Some n)) (with_pieces_of sharing i o) groups histories
+        → SlotsRefine laws w (set instances i (Some n)) (with_pieces_of sharing i o) groups (called_at i Moved histories)
     keeps_of_idle laws w histories step keeps =
         let here : SlotRefines laws w (Some (member_back back m)) (shared_at sharing i) groups (histories i) = rw at_back at (keeps i) in
-        subst (λ (l : List (Option (Member M))). SlotsRefine laws w l (with_pieces_of sharing i o) groups histories) (again (Some n))
-        (keeps_after_end (Beside IsThere i) with_piece_back sharing groups i (Some n) o there_back below idle_before is (member_back back m) at_back pieces written laws w histories (step here) keeps)
+        subst (λ (l : List (Option (Member M))). SlotsRefine laws w l (with_pieces_of sharing i o) groups (called_at i Moved histories)) (again (Some n))
+        (keeps_after_call (Beside IsThere i) with_piece_back sharing groups i (Some n) o there_back below idle_before is (member_back back m) at_back pieces written laws w histories (called Moved (histories i)) (step here) keeps)
 
   -- an active one
   module _ (inst : Inst M) (o : Pieces) (y : Group) (alone : (j : ℕ) → (group_at groups m.group).active ≡ Some j → j ≡ i) (now : y.active ≡ active_in i inst)
@@ -159,10 +160,10 @@ module _ {M : Type 0} (instances : List (Option (Member M))) (sharing : List Loc
         subst (λ (l : List (Option (Member M))). SameMembers with_piece_back sharing groups l (with_pieces_of sharing i o) (set groups m.group y)) (again (Some (record { group = m.group; inst = inst })))
         (members_after with_piece_back sharing groups i m.group (member_back back m) (record { group = m.group; inst = inst }) o y i_in i_in_once (owners_of_held instances sharing there.held) g_in at_back same pieces blocks)
 
-    pub keeps_of_active : (laws : Laws M) (w : Option ℤ) (histories : ℕ → History)
-        → (InstRefines laws w (member_back back m).inst (shared_at sharing i) (group_at groups m.group) (histories i) → InstRefines laws w inst o y (histories i))
+    pub keeps_of_active : (laws : Laws M) (w : Option ℤ) (histories : ℕ → Log)
+        → (InstRefines laws w (member_back back m).inst (shared_at sharing i) (group_at groups m.group) (histories i) → InstRefines laws w inst o y (called Moved (histories i)))
         → SlotsRefine laws w with_piece_back sharing groups histories
-        → SlotsRefine laws w told (with_pieces_of sharing i o) (set groups m.group y) histories
+        → SlotsRefine laws w told (with_pieces_of sharing i o) (set groups m.group y) (called_at i Moved histories)
     keeps_of_active laws w histories step keeps =
-        subst (λ (l : List (Option (Member M))). SlotsRefine laws w l (with_pieces_of sharing i o) (set groups m.group y) histories) (again (Some (record { group = m.group; inst = inst })))
-        (keeps_after_change (Beside IsThere i) with_piece_back sharing groups i m.group (member_back back m) inst o y there_back at_back refl alone now pieces written laws w histories step keeps)
+        subst (λ (l : List (Option (Member M))). SlotsRefine laws w l (with_pieces_of sharing i o) (set groups m.group y) (called_at i Moved histories)) (again (Some (record { group = m.group; inst = inst })))
+        (keeps_after_step (Beside IsThere i) with_piece_back sharing groups i m.group (member_back back m) inst o y there_back at_back refl alone now pieces written laws w histories (called Moved (histories i)) step keeps)

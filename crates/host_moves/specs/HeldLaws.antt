@@ -3,7 +3,7 @@ use Rattle.std.specs.Prelude.{◌≡◌, ◌≢◌, ◌⊎◌, ◌<◌, ℕ, ℤ
 use Rattle.space_raw.specs.Span.{Span}
 use Rattle.mem_rec.specs.declared.TheConstants.{TABLE_RECORDS, GROUPS}
 use Rattle.mem_rec.specs.declared.Space.{Space}
-use Rattle.ialg.specs.History.{History}
+use Rattle.ialg.specs.Log.{Log}
 use Rattle.ialg.specs.Laws.{Laws}
 use Rattle.ialg.specs.Records.{ArePoison}
 use Rattle.record_loans.specs.declared.pieces.Pieces.{Pieces}
@@ -21,13 +21,13 @@ use Rattle.host_table.specs.Table.{slot_at, group_at, instance_of, activity_at, 
 use Rattle.host_table.specs.Refinement.{SlotsRefine}
 use Rattle.host_moves.specs.Waiting.{own_set, slid_to, holds_with, TablesBut, TablesWaiting, WordsStay}
 
--- where words stay, wherever they lie, each instance keeps its history
-abbrev pub WordsKeepHistories : {M : Type 0} → Laws M → Type 0
-WordsKeepHistories {M = M} laws =
-    (w : Option ℤ) (histories : ℕ → History) (instances instances' : List (Option (Member M))) (sharing sharing' : List Locations) (groups groups' : List Group)
+-- where words stay, wherever they lie, each instance keeps its log
+abbrev pub WordsKeepLogs : {M : Type 0} → Laws M → Type 0
+WordsKeepLogs {M = M} laws =
+    (w : Option ℤ) (logs : ℕ → Log) (instances instances' : List (Option (Member M))) (sharing sharing' : List Locations) (groups groups' : List Group)
     → TablesOk instances sharing groups → WordsStay instances sharing groups instances' sharing' groups'
-    → SlotsRefine laws w instances sharing groups histories
-    → SlotsRefine laws w instances' sharing' groups' histories
+    → SlotsRefine laws w instances sharing groups logs
+    → SlotsRefine laws w instances' sharing' groups' logs
 
 -- where the tables are consistent, all instances but any one are housed
 abbrev pub AllButOneAreHoused : Type 0 → Type 0

@@ -11,7 +11,7 @@ use Rattle.scratch_group.specs.declared.group.Group.{Group}
 use Rattle.host_table.specs.declared.member.Member.{Member}
 use Rattle.host_shared.specs.declared.locations.Locations.{Locations}
 use Rattle.host_table.specs.Table.{slot_at, instance_of, activity_at}
-use Rattle.host_table.specs.Refinement.{SlotsRefine}
+use Rattle.host_table.specs.Refinement.{HistoriesRefine}
 use Rattle.host_table.specs.View.{View}
 use Rattle.host_map.specs.Activity.{Activity}
 use Rattle.host_map.specs.declared.parts.Stat.{Stat}
@@ -41,7 +41,7 @@ pub record ListsRefine {M : Type 0} (laws : Laws M)
     (instances : List (Option (Member M))) (sharing : List Locations) (groups : List Group) (state : State M) : Type 0 where
   pub living : (i : ℕ) → IsLiving (slot_at instances i) (state.living i)
   pub activity : (g : ℕ) → activity_at groups g ≡ state.activity g
-  pub histories : SlotsRefine laws state.poison instances sharing groups (λ i. history_of (state.living i))
+  pub histories : HistoriesRefine laws state.poison instances sharing groups (λ i. history_of (state.living i))
 
 -- the same, of all that the tables hold
 abbrev pub TablesRefine : {M : Type 0} → Laws M → View M → State M → Type 0

@@ -1,11 +1,11 @@
 //! What moves leave as it is. The calls do nothing: their contracts are the laws.
-ghost use Rattle.host_moves.specs.HeldLaws.{AllButOneAreHoused, MembersWaitAfterAChange, OwnPiecesConcernNoOther, PoisonStaysWhereChangesHoldIt, SharersSeeTheSlidPiece, SharersWaitAfterASlide, TheOwnerHasTheSlidPiece, WordsKeepHistories};
+ghost use Rattle.host_moves.specs.HeldLaws.{AllButOneAreHoused, MembersWaitAfterAChange, OwnPiecesConcernNoOther, PoisonStaysWhereChangesHoldIt, SharersSeeTheSlidPiece, SharersWaitAfterASlide, TheOwnerHasTheSlidPiece, WordsKeepLogs};
 
 use ialg::Ialg;
 
-/// The law that an instance keeps its history wherever its words lie; and that no member of a group sees blocks in which it has no words.
+/// The law that an instance keeps its log wherever its words lie; and that no member of a group sees blocks in which it has no words.
 pub fn words<M: Ialg>()
-    ensures { WordsKeepHistories M.law }
+    ensures { WordsKeepLogs M.law }
 {}
 
 /// The law that the pieces of one instance concern no other.

@@ -5,9 +5,9 @@
 //! puts it back; then every instance that has records in it is called by algMoved, an active one too, which stays active. The words of its
 //! records are the same, so it keeps its history.
 //!
-//! Tables and spaces refine a state of the specification where they have its instances, its memory map, its active members and its counts, and
-//! where each lawful instance keeps its history in the words of its records. A step and a compaction lead to tables and spaces that refine the
-//! specification's next state.
+//! Tables and spaces refine a state of the specification where they have its instances, its memory map, its active members and its counts,
+//! and where each lawful instance keeps its history in the words of its records. A step and a compaction lead to tables and spaces that
+//! refine the specification's next state.
 #![tactic(auto)]
 
 mod blocks;

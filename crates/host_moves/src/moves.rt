@@ -1,5 +1,5 @@
 //! Moves: the next block of a space is slid down to its packed place, and whoever has records in it is told.
-ghost use Rattle.std.specs.Prelude.{◌≡◌, ◌<◌, length, true, false, IsSome};
+ghost use Rattle.std.specs.Prelude.{◌≡◌, ◌<◌, length, true, false, is_some, IsSome};
 ghost use Rattle.record_loans.specs.Pieces.{piece_at};
 ghost use Rattle.mem_rec.specs.declared.TheConstants.{GROUPS};
 ghost use Rattle.host_shared.specs.Locations.{shared_at};
@@ -36,6 +36,7 @@ fn move_own<M: Ialg>(
     requires next { IsNextOf spaces.old space (Owner.Record i k) }
     requires index { IsNextIndex spaces.old space index }
     requires own { IsSome (piece_owned tables.old.instances i k) }
+    requires unshared { is_some (piece_at (shared_at tables.old.sharing i) k) ≡ false }
     ensures { Moved M.law space tables.old spaces.old tables.new spaces.new }
 {
     let piece = take_own(&mut tables.instances, i, k as usize);
@@ -99,9 +100,10 @@ fn move_block<M: Ialg>(
     }
 }
 
-/// Makes the next move of a space: its first block that isn't at its packed place is slid down to it, with its words, and each instance that
-/// has words in it is told, in ascending number: its owner, and all that share the record with it, or each member of its group. Says whether
-/// a block moved. So many of the first blocks as `packed` says are known to be at their packed places, and it says so of the moved ones too.
+/// Makes the next move of a space: its first block that isn't at its packed place is slid down to it, with its words, and each instance
+/// that has words in it is told, in ascending number: its owner, and all that share the record with it, or each member of its group. Says
+/// whether a block moved. So many of the first blocks as `packed` says are known to be at their packed places, and it says so of the moved
+/// ones too.
 #[inline(always)]
 pub fn make_next_move<M: Ialg>(
     tables: &mut Tables<M>,

@@ -1,12 +1,14 @@
 //! algMoved: instances follow their records to where these lie now.
 ghost use Rattle.std.specs.Prelude.{◌≡◌, ◌+◌, ◌<◌, IsSome};
 ghost use Rattle.mem_rec.specs.declared.TheConstants.{TABLE_RECORDS, INSTANCES};
+ghost use Rattle.ialg.specs.Log.Called.{Moved};
 ghost use Rattle.host_table.specs.Table.{slot_at, SameActivities};
 ghost use Rattle.host_shared.specs.Locations.{owner_of};
 ghost use Rattle.host_shared.specs.Sharing.{AreLeast};
-ghost use Rattle.host_table.specs.Steps.{AreConsistent, MembersStay, AllHistoriesStay};
+ghost use Rattle.host_table.specs.Steps.{AreConsistent, AllLogsGo, MembersStay, called_at};
 ghost use Rattle.host_table.specs.Frames.{InactiveGroupsStay};
-ghost use Rattle.host_moves.specs.Waiting.{restored_at, AreConsistentBut, AreThere, CanComeBack, SharersWait, SharersWaitFrom, SlotHasRoom, WaitsNoLonger};
+ghost use Rattle.host_moves.specs.Moves.{told_where};
+ghost use Rattle.host_moves.specs.Waiting.{holds_with, restored_at, AreConsistentBut, AreThere, CanComeBack, SharersWait, SharersWaitFrom, SlotHasRoom, WaitsNoLonger};
 
 use host_shared::next_with_owner;
 use host_table::Tables;
@@ -28,7 +30,7 @@ pub fn tell<M: Ialg>(tables: &mut Tables<M>, i: u8, back: Option<(usize, Piece)>
     ensures inactive { InactiveGroupsStay tables.old.groups tables.new.groups }
     ensures same { MembersStay (restored_at tables.old i back) tables.new }
     ensures activity { SameActivities tables.old.groups tables.new.groups }
-    ensures keeps { AllHistoriesStay M.law (restored_at tables.old i back) tables.new }
+    ensures keeps { AllLogsGo M.law (restored_at tables.old i back) tables.new (called_at i Moved) }
 {
     match &mut tables.instances[i as usize] {
         Some(member) => {
@@ -58,14 +60,15 @@ fn call_moved_of_sharer<M: Ialg>(tables: &mut Tables<M>, i: u8, k: usize, j: u8)
     ensures inactive { InactiveGroupsStay tables.old.groups tables.new.groups }
     ensures same { MembersStay tables.old tables.new }
     ensures activity { SameActivities tables.old.groups tables.new.groups }
-    ensures keeps { AllHistoriesStay M.law tables.old tables.new }
+    ensures keeps { AllLogsGo M.law tables.old tables.new (called_at j Moved) }
 {
     if tables.lives(j) {
         tell(tables, j, None);
     }
 }
 
-/// Calls algMoved of the owner `i` of a write-once record and of each instance that shares it, in ascending number. The owner has the least number.
+/// Calls algMoved of the owner `i` of a write-once record and of each instance that shares it, in ascending number. The owner has the least
+/// number.
 pub fn call_moved_of_sharers<M: Ialg>(tables: &mut Tables<M>, i: u8, k: usize)
     requires number { i < INSTANCES }
     requires least { AreLeast tables.old.sharing }
@@ -76,7 +79,7 @@ pub fn call_moved_of_sharers<M: Ialg>(tables: &mut Tables<M>, i: u8, k: usize)
     ensures inactive { InactiveGroupsStay tables.old.groups tables.new.groups }
     ensures same { MembersStay tables.old tables.new }
     ensures activity { SameActivities tables.old.groups tables.new.groups }
-    ensures keeps { AllHistoriesStay M.law tables.old tables.new }
+    ensures keeps { AllLogsGo M.law tables.old tables.new (told_where (holds_with tables.old.sharing i k)) }
 {
     call_moved_of_sharer(tables, i, k, i);
     let mut j = next_with_owner(&tables.sharing, i, k, i as usize + 1);

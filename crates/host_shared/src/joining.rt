@@ -108,7 +108,8 @@ pub fn join(sharing: &mut Vec<Locations>, i: u8, placed: Pieces, sharers: Sharer
     requires owners { AllHaveOwners sharing.old.items }
     requires sharers { (k : ℕ) → CanJoin sharing.old.items k (sharer_at sharers k) (piece_at placed k) }
     ensures count { length sharing.new.items ≡ INSTANCES }
-    ensures joined { (j k : ℕ) → location_at (locations_at sharing.new.items j) k ≡ location_joined sharing.old.items i k (sharer_at sharers k) (piece_at placed k) j }
+    ensures joined { (j k : ℕ) → location_at (locations_at sharing.new.items j) k
+        ≡ location_joined sharing.old.items i k (sharer_at sharers k) (piece_at placed k) j }
     ensures pieces { shared_at sharing.new.items i ≡ pieces_joined sharing.old.items sharers placed }
     ensures others { (j : ℕ) → j ≢ i → shared_at sharing.new.items j ≡ shared_at sharing.old.items j }
     ensures owners { AllHaveOwners sharing.new.items }

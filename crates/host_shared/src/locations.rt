@@ -147,7 +147,8 @@ pub fn owner(sharing: &Vec<Locations>, i: usize, k: usize) -> usize
 /// How many slots make a run. The count of all is a multiple of it.
 pub(crate) const RUN: usize = 16;
 
-/// Whether the third records of a run of slots name no owner. LLVM writes the run out and joins its tests, so that a slot costs one instruction.
+/// Whether the third records of a run of slots name no owner. LLVM writes the run out and joins its tests, so that a slot costs one
+/// instruction.
 #[inline(always)]
 fn names_no_owner(sharing: &Vec<Locations>, run: usize) -> bool
     requires count { length sharing.now.items ≡ INSTANCES }

@@ -131,7 +131,8 @@ fn hand_record(sharing: &mut Vec<Locations>, i: u8, k: usize, next: Option<u8>) 
     hand_piece(sharing, i, k, next)
 }
 
-/// Makes the next sharers, which are known, the owners of the records of an instance that is deleted. The pieces that nobody shares come back.
+/// Makes the next sharers, which are known, the owners of the records of an instance that is deleted. The pieces that nobody shares come
+/// back.
 pub fn hand_on(sharing: &mut Vec<Locations>, i: u8, next: &Sharers) -> Pieces
     requires count { length sharing.old.items ≡ INSTANCES }
     requires number { i < INSTANCES }

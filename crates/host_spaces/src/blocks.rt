@@ -21,8 +21,8 @@ use space_raw::Piece;
 use std::alloc::{Allocator, Global};
 use std::marker::Model;
 
-/// A space and its blocks. The pieces of the blocks are held elsewhere. The space is of the allocator `A`, the system's by default. It can't
-/// be copied, and must be given back by `close`.
+/// A space and its blocks. The pieces of the blocks are held elsewhere. The space is of the allocator `A`, the system's by default. It
+/// can't be copied, and must be given back by `close`.
 pub struct SpaceBlocks<A: Allocator = Global> {
     heap: Heap<A>,
     // Its room is asked for once, and lies apart: so a space is passed on without a copy of its blocks.
@@ -141,9 +141,9 @@ impl SpaceBlocks {
         rename_each(self.blocks.as_mut_slice(), from, to);
     }
 
-    /// The block that moves next, as it stands: the first one that isn't at its packed place. `None` exactly where all are packed. The search
-    /// begins behind the first blocks, so many as `packed` says, which are known to be at their packed places; from then on it says how many
-    /// of them are there once the move is made, so that the block is the last of them.
+    /// The block that moves next, as it stands: the first one that isn't at its packed place. `None` exactly where all are packed. The
+    /// search begins behind the first blocks, so many as `packed` says, which are known to be at their packed places; from then on it says
+    /// how many of them are there once the move is made, so that the block is the last of them.
     pub fn next_move_behind(&self, packed: &mut usize) -> Option<Placed>
         requires front { HasFront packed.old self.now.blocks }
         ensures value { result ≡ next_block self.now.blocks }
@@ -213,7 +213,7 @@ impl SpaceBlocks {
     }
 }
 
-// One block more, in place order.
+/// One block more, in place order.
 fn enter(blocks: &mut Vec<Placed>, block: Placed)
     requires room { length blocks.old.items < vec_capacity blocks.old }
     requires order { AreSpots (spots_of blocks.old.items) }
@@ -224,7 +224,7 @@ fn enter(blocks: &mut Vec<Placed>, block: Placed)
     let _there_is_room = blocks.insert(index, block);
 }
 
-// How many blocks begin before the place.
+/// How many blocks begin before the place.
 fn count_before(blocks: &[Placed], place: u32) -> usize
     requires order { AreSpots (spots_of blocks.now) }
     ensures within { result ≤ length blocks.now }
@@ -244,7 +244,7 @@ fn count_before(blocks: &[Placed], place: u32) -> usize
     low
 }
 
-// Each block of one owner is another owner's.
+/// Each block of one owner is another owner's.
 fn rename_each(blocks: &mut [Placed], from: Owner, to: Owner)
     ensures { blocks.new ≡ renamed_blocks (renaming from to) blocks.old }
 {
@@ -253,7 +253,7 @@ fn rename_each(blocks: &mut [Placed], from: Owner, to: Owner)
     }
 }
 
-// The block is another owner's, if it is this owner's. Most are not, and are left as they are.
+/// The block is another owner's, if it is this owner's. Most are not, and are left as they are.
 fn rename_block(block: &mut Placed, from: Owner, to: Owner)
     ensures { block.new ≡ renamed_block (renaming from to) block.old }
 {
@@ -262,7 +262,7 @@ fn rename_block(block: &mut Placed, from: Owner, to: Owner)
     }
 }
 
-// The index of the block that begins at the place.
+/// The index of the block that begins at the place.
 fn position(blocks: &[Placed], place: u32) -> usize
     requires order { AreSpots (spots_of blocks.now) }
     requires there { (b : Placed) × Contains blocks.now b × (b.place ≡ place) }
@@ -272,7 +272,7 @@ fn position(blocks: &[Placed], place: u32) -> usize
     count_before(blocks, place)
 }
 
-// The alignment of a block.
+/// The alignment of a block.
 fn align_of(blocks: &[Placed], index: usize) -> u32
     requires within { index < length blocks.now }
     ensures value { (d : Placed) → result ≡ (slice_index_or blocks.now index d).align }
@@ -280,7 +280,7 @@ fn align_of(blocks: &[Placed], index: usize) -> u32
     blocks[index].align
 }
 
-// A block begins at this place from now on.
+/// A block begins at this place from now on.
 fn put_at(blocks: &mut Vec<Placed>, index: usize, place: u32)
     requires within { index < length blocks.old.items }
     ensures items { blocks.new.items ≡ moved_to blocks.old.items index place }

@@ -16,8 +16,9 @@ use scratch_group::Group;
 
 impl Spaces {
     /// Places all blocks that a new instance `i` with this table needs: its records that aren't scratch and have no sharer, in table order,
-    /// and then the blocks that its group `g` needs for it in `daram`, `saram` and `external`, while the group's old blocks still stand. Or says the
-    /// space of the first block that has no place; then nothing has happened. Where there is a poison word, it fills what was placed.
+    /// and then the blocks that its group `g` needs for it in `daram`, `saram` and `external`, while the group's old blocks still stand. Or
+    /// says the space of the first block that has no place; then nothing has happened. Where there is a poison word, it fills what was
+    /// placed.
     pub fn place_instance(
         &mut self,
         i: u8,

@@ -21,7 +21,7 @@ use record_loans::{Pieces, end_absent};
 use space_raw::Piece;
 
 impl Spaces {
-    // A block of the space goes back, if there is one.
+    /// A block of the space goes back, if there is one.
     fn give_back(&mut self, space: Space, piece: Option<Piece>)
         requires region { IfSome piece (λ p. p.region ≡ (space_in self.old space).region) }
         requires owner { IfSome piece (λ p. (owner : Owner) × Owns (space_in self.old space).blocks owner p) }
@@ -91,7 +91,7 @@ pub fn record_spaces(table: &MemTab) -> [Space; TABLE_RECORDS]
     ]
 }
 
-// One of the spaces.
+/// One of the spaces.
 fn space_at(spaces: &[Space; TABLE_RECORDS], k: usize) -> Space
     requires { k < TABLE_RECORDS }
     ensures { result ≡ slice_index_or spaces.now k Daram }
@@ -99,7 +99,7 @@ fn space_at(spaces: &[Space; TABLE_RECORDS], k: usize) -> Space
     spaces[k]
 }
 
-// The space of record `k`.
+/// The space of record `k`.
 fn space_of(table: &MemTab, k: usize) -> Space
     ensures { result ≡ (record_at table.now k).space }
 {
@@ -110,7 +110,7 @@ fn space_of(table: &MemTab, k: usize) -> Space
     }
 }
 
-// The pieces of all records, their own and those that are lent. No record has both.
+/// The pieces of all records, their own and those that are lent. No record has both.
 fn either_pieces(own: Pieces, shared: Pieces) -> Pieces
     requires one { (k : ℕ) → IsSome (piece_at own k) → piece_at shared k ≡ None }
     ensures { (k : ℕ) → piece_at result k ≡ option_or (piece_at own k) (piece_at shared k) }
@@ -129,7 +129,7 @@ fn either_pieces(own: Pieces, shared: Pieces) -> Pieces
     Pieces { p0, p1, p2, p3 }
 }
 
-// A record's piece: its own, or the one that is lent. It doesn't have both.
+/// A record's piece: its own, or the one that is lent. It doesn't have both.
 fn either_piece(own: Option<Piece>, shared: Option<Piece>) -> Option<Piece>
     requires one { IsSome own → shared ≡ None }
     ensures { result ≡ option_or own shared }

@@ -18,7 +18,7 @@ pub(crate) struct Granted {
 }
 
 impl Granted {
-    // No pieces.
+    /// No pieces.
     pub(crate) fn none() -> Granted
         ensures { result ≡ none_granted }
     {
@@ -33,7 +33,7 @@ impl Granted {
         }
     }
 
-    // Entry `k`, which has none, gets the piece.
+    /// Entry `k`, which has none, gets the piece.
     pub(crate) fn put(&mut self, k: usize, piece: Piece)
         requires number { k < WANTS }
         requires empty { slot_at self.old k ≡ None }
@@ -51,7 +51,7 @@ impl Granted {
         end_none(old);
     }
 
-    // Ends it where it has no pieces.
+    /// Ends it where it has no pieces.
     pub(crate) fn end_none(self)
         requires { self ≡ none_granted }
     {

@@ -2,8 +2,8 @@
 //! The three spaces of a host: which block stands where, and whose it is.
 //!
 //! The blocks of a space stand in place order, each with its owner: a record of an instance, or a group's scratch. A block is placed at its
-//! least place, taken out, or moved down; the map of the space and its next move are read off. A creation is refused whole: all its blocks are
-//! placed, or none. Places and sizes are counted in words of 16 bits.
+//! least place, taken out, or moved down; the map of the space and its next move are read off. A creation is refused whole: all its blocks
+//! are placed, or none. Places and sizes are counted in words of 16 bits.
 #![tactic(auto)]
 
 mod blocks;

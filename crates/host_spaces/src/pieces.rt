@@ -35,14 +35,14 @@ pub struct Placement {
     pub blocks: NewBlocks,
 }
 
-// Whether record `k` is one that is written once.
+/// Whether record `k` is one that is written once.
 fn is_once(table: &MemTab, k: usize) -> bool
     ensures { result ≡ is_write_once (record_at table.now k).attr }
 {
     k < table.len() && table.get(k).attr == Attr::WriteOnce
 }
 
-// The piece of a record as one of its own, and as one that is lent.
+/// The piece of a record as one of its own, and as one that is lent.
 fn sides(once: bool, piece: Option<Piece>) -> (Option<Piece>, Option<Piece>)
     ensures own { result.0 ≡ kept_piece once piece }
     ensures shared { result.1 ≡ lent_piece once piece }
@@ -50,7 +50,7 @@ fn sides(once: bool, piece: Option<Piece>) -> (Option<Piece>, Option<Piece>)
     if once { (None, piece) } else { (piece, None) }
 }
 
-// The piece as a block of the alignment that was wanted.
+/// The piece as a block of the alignment that was wanted.
 fn block_for(want: Option<Wanted>, piece: Option<Piece>) -> Option<ScratchBlock>
     requires wanted { IsSome piece → IsSome want }
     ensures { result ≡ as_block want piece }
@@ -67,7 +67,7 @@ fn block_for(want: Option<Wanted>, piece: Option<Piece>) -> Option<ScratchBlock>
     }
 }
 
-// What was granted to an instance with this table.
+/// What was granted to an instance with this table.
 pub(crate) fn as_placement(granted: Granted, table: &MemTab, wants: &[Option<Wanted>]) -> Placement
     requires seven { length wants.now ≡ WANTS }
     requires wanted { (j : ℕ) → IsSome (slot_at granted j) → IsSome (want_at wants.now j) }

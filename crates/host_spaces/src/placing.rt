@@ -15,7 +15,7 @@ use host_map::Wanted;
 use mem_rec::Space;
 use space_raw::Piece;
 
-// A block at its place in its space, which is filled with the poison word, where there is one.
+/// A block at its place in its space, which is filled with the poison word, where there is one.
 fn place_filled(spaces: &mut Spaces, want: Wanted, poison: Option<i16>) -> Option<Piece>
     requires limits { IsWithinLimits want }
     requires room { length (space_in spaces.old want.space).blocks < SPACE_BLOCKS }
@@ -37,7 +37,7 @@ fn place_filled(spaces: &mut Spaces, want: Wanted, poison: Option<i16>) -> Optio
     Some(piece)
 }
 
-// The first entry from `k` on that wants something, or the end.
+/// The first entry from `k` on that wants something, or the end.
 fn next_wanted(wants: &[Option<Wanted>], k: usize) -> usize
     requires { k ≤ length wants.now }
     ensures within { (k ≤ result) × (result ≤ length wants.now) }
@@ -50,7 +50,7 @@ fn next_wanted(wants: &[Option<Wanted>], k: usize) -> usize
     next_wanted(wants, k + 1)
 }
 
-// Places what entry `k` wants, and then what is wanted behind it, as `place_from` does.
+/// Places what entry `k` wants, and then what is wanted behind it, as `place_from` does.
 #[cycle(placing)]
 #[inline(never)]
 fn place_at(
@@ -92,8 +92,8 @@ fn place_at(
     }
 }
 
-// Places for what is wanted from entry `k` on, in this order; or the space of the first that has none, and then nothing has happened. The
-// pieces are put where the caller has room for them: given back by value they would be copied at each entry.
+/// Places for what is wanted from entry `k` on, in this order; or the space of the first that has none, and then nothing has happened. The
+/// pieces are put where the caller has room for them: given back by value they would be copied at each entry.
 #[cycle(placing)]
 pub(crate) fn place_from(
     spaces: &mut Spaces,

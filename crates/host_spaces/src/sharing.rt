@@ -14,7 +14,7 @@ use host_map::Owner;
 use mem_rec::TABLE_RECORDS;
 
 impl Spaces {
-    // What is the block of one owner is another owner's from now on, in each space.
+    /// What is the block of one owner is another owner's from now on, in each space.
     fn rename(&mut self, from: Owner, to: Owner)
         ensures map { map_of self.new ≡ renamed (renaming from to) (map_of self.old) }
         ensures stays { AreSameSpaces self.old self.new }
@@ -24,7 +24,7 @@ impl Spaces {
         self.external.rename(from, to);
     }
 
-    // Where instance `i` has come to share record `k` with a sharer of a greater number, that block is `i`'s from now on.
+    /// Where instance `i` has come to share record `k` with a sharer of a greater number, that block is `i`'s from now on.
     fn take_record(&mut self, i: u8, k: u8, sharer: Option<u8>)
         ensures map { map_of self.new ≡ renamed (taken_over (only k sharer) i) (map_of self.old) }
         ensures stays { AreSameSpaces self.old self.new }
@@ -39,7 +39,7 @@ impl Spaces {
         }
     }
 
-    // Where instance `i` shared record `k` with a sharer, that block is the sharer's from now on.
+    /// Where instance `i` shared record `k` with a sharer, that block is the sharer's from now on.
     fn hand_record(&mut self, i: u8, k: u8, sharer: Option<u8>)
         ensures map { map_of self.new ≡ renamed (handed_on (only k sharer) i) (map_of self.old) }
         ensures stays { AreSameSpaces self.old self.new }
@@ -50,8 +50,8 @@ impl Spaces {
         }
     }
 
-    /// Instance `i` has come to share the records that have a sharer. The owner of a shared block is the least instance that shares it: where
-    /// `i` is less than the sharer, that block is `i`'s from now on.
+    /// Instance `i` has come to share the records that have a sharer. The owner of a shared block is the least instance that shares it:
+    /// where `i` is less than the sharer, that block is `i`'s from now on.
     pub fn take_over(&mut self, i: u8, sharers: &Sharers)
         ensures map { map_of self.new ≡ renamed (taken_over (sharer_at sharers.now) i) (map_of self.old) }
         ensures taken { AreTaken (sharer_at sharers.now) i (map_of self.old) (map_of self.new) }

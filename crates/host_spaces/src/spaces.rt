@@ -83,9 +83,9 @@ impl Spaces {
         self.space(space).blocks()
     }
 
-    /// The block of a space that moves next, as it stands. `None` exactly where all are packed. The search begins behind the first blocks, so many
-    /// as `packed` says, which are known to be at their packed places; from then on it says how many of them are there once the move is made,
-    /// so that the block is the last of them.
+    /// The block of a space that moves next, as it stands. `None` exactly where all are packed. The search begins behind the first blocks,
+    /// so many as `packed` says, which are known to be at their packed places; from then on it says how many of them are there once the
+    /// move is made, so that the block is the last of them.
     pub fn next_move_behind(&self, space: Space, packed: &mut usize) -> Option<Placed>
         requires front { HasFront packed.old (blocks_in (map_of self.now) space) }
         ensures value { result ≡ next_block (blocks_in (map_of self.now) space) }
@@ -96,7 +96,8 @@ impl Spaces {
         self.space(space).next_move_behind(packed)
     }
 
-    /// The next move of a space is made, of the block of this index, which the piece is. It is slid down to its packed place with its words.
+    /// The next move of a space is made, of the block of this index, which the piece is. It is slid down to its packed place with its
+    /// words.
     pub fn make_move(&mut self, space: Space, piece: Piece, index: usize) -> Piece
         requires region { piece.region ≡ (space_in self.old space).region }
         requires next { IsNextToMove piece (blocks_in (map_of self.old) space) }
@@ -117,7 +118,7 @@ impl Spaces {
         }
     }
 
-    // A block for the owner at its place in the space. `None` exactly where there is none.
+    /// A block for the owner at its place in the space. `None` exactly where there is none.
     pub(crate) fn place(&mut self, want: Wanted) -> Option<Piece>
         requires limits { IsWithinLimits want }
         requires room { length (space_in self.old want.space).blocks < SPACE_BLOCKS }
@@ -138,7 +139,7 @@ impl Spaces {
         }
     }
 
-    // A block of the space goes back.
+    /// A block of the space goes back.
     pub(crate) fn take_out(&mut self, space: Space, piece: Piece)
         requires region { piece.region ≡ (space_in self.old space).region }
         requires owner { (owner : Owner) × Owns (space_in self.old space).blocks owner piece }

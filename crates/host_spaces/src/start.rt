@@ -31,7 +31,7 @@ pub struct EmptySpaces<A: Allocator = Global> {
     ghost external_empty: { (external.region.size ≡ sizes.external) × (external.slid ≡ 0) × (external.blocks ≡ []) },
 }
 
-// What it means to a host that a space isn't made.
+/// What it means to a host that a space isn't made.
 fn start_error(refusal: HeapError) -> StartError
     ensures bad_size { refusal ≡ HeapError.BadSize → result ≡ StartError.BadSize }
     ensures memory { refusal ≡ HeapError.Memory → result ≡ StartError.Memory }

@@ -17,7 +17,7 @@ pub type Sharers = [Option<u8>; TABLE_RECORDS];
 // What a creation can need: four records and a block in each space.
 pub(crate) const WANTS: usize = 7;
 
-// What record `k` of instance `i` needs, where this other instance shares it, or none.
+/// What record `k` of instance `i` needs, where this other instance shares it, or none.
 pub(crate) fn wanted_record(i: u8, k: u8, table: &MemTab, sharer: Option<u8>) -> Option<Wanted>
     ensures value { result ≡ record_wanted (λ _. sharer) i k (record_at table.now k) }
     ensures limits { IfSome result IsWithinLimits }
@@ -38,7 +38,7 @@ pub(crate) fn wanted_record(i: u8, k: u8, table: &MemTab, sharer: Option<u8>) ->
     })
 }
 
-// What group `g`, which has these blocks in the spaces, needs in a space for a member with this table.
+/// What group `g`, which has these blocks in the spaces, needs in a space for a member with this table.
 pub(crate) fn wanted_block(
     spaces: &Spaces,
     g: u8,
@@ -62,7 +62,7 @@ pub(crate) fn wanted_block(
     })
 }
 
-// All that an instance with this table needs, in the order in which it is placed.
+/// All that an instance with this table needs, in the order in which it is placed.
 pub(crate) fn wants(
     spaces: &Spaces,
     i: u8,

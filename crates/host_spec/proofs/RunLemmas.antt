@@ -3,7 +3,7 @@ use Rattle.std.proofs.Common.{◌≡◌, ◌≢◌, ℕ, ℤ, Bool, true, false,
 use Rattle.std.specs.Prelude.{is_some, not, ◌&&◌}
 use Rattle.std.proofs.lemmas.Bool.{eq-eqb}
 use Rattle.std.proofs.lemmas.Bool.Decides.{eqb_tells}
-use Rattle.std.proofs.lemmas.Option.{none-some}
+use Rattle.std.proofs.lemmas.Option.{none-some, same_Some}
 use Rattle.relocate.proofs.RangeTests.{either}
 use Rattle.mem_rec.specs.declared.MemRec.{MemRec}
 use Rattle.mem_rec.specs.declared.Space.{Space}
@@ -93,11 +93,13 @@ taken_stays false false before outcome e = cc
 its : {M : Type 0} (living : ℕ → Option (Living M)) (i : ℕ) (x : Option (Living M)) → with_at living i x i ≡ x
 its living i x = ap (λ b. cond b x (living i)) (eq-eqb i i refl)
 
-ok_same : {A E : Type 0} (a b : A) → ◌≡◌ {A = Result A E} (Ok a) (Ok b) → a ≡ b
-ok_same a b e = cc
+-- a test that finds nothing
+pub none_there : {A : Type 0} (o : Option A) → is_some o ≡ false → o ≡ None
+none_there None e = refl
+none_there (Some a) e = cc
 
-some_same : {A : Type 0} (a b : A) → Some a ≡ Some b → a ≡ b
-some_same a b e = cc
+pub ok_same : {A E : Type 0} (a b : A) → ◌≡◌ {A = Result A E} (Ok a) (Ok b) → a ≡ b
+ok_same a b e = cc
 
 -- the instance lives on with this history, and grew by its meaning
 pub record Grown {M : Type 0} (kinds : Meaning M) (i : ℕ) (x : Living M) (after : State M) (h : History) (out : List ℤ) (statuses : List Status) : Type 0 where
@@ -171,7 +173,7 @@ module _ {M : Type 0} (kinds : Meaning M) (i : ℕ) (x : Living M) where
       its_block : (block out : List ℤ) → Processes kinds before i block out after
           → Grown kinds i x after (with_samples x.history block) out []
       its_block block out does =
-          let same : does.instance ≡ x = some_same does.instance x (sym does.there ∙ there) in
+          let same : does.instance ≡ x = same_Some does.instance x (sym does.there ∙ there) in
           let next : after ≡ given before i (Some x) block = does.outcome ∙ ap (λ y. given before i y block) there in
           let gives : MayGive kinds before.poison x block out = subst (λ y. MayGive kinds before.poison y block out) same does.gives in
           record {

@@ -20,8 +20,8 @@ pub fn controls_answer_in_order<M>()
     ensures granted { ControlGrants M }
 {}
 
-/// The law of samples: a block that isn't empty makes the instance the active member of its group and stands in its history, and an empty one
-/// does nothing. The call does nothing.
+/// The law of samples: a block that isn't empty makes the instance the active member of its group and stands in its history, and an empty
+/// one does nothing. The call does nothing.
 pub fn samples_touch<M>()
     ensures some { SamplesActivate M }
     ensures none { EmptyBlocksDoNothing M }

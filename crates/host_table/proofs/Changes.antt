@@ -6,7 +6,7 @@ use Rattle.std.proofs.lemmas.Bool.{true≢false}
 use Rattle.std.proofs.lemmas.Option.{none-some, same_Some}
 use Rattle.mem_rec.specs.declared.MemRec.{MemRec}
 use Rattle.mem_rec.specs.declared.Space.{Space}
-use Rattle.ialg.specs.History.{History}
+use Rattle.ialg.specs.Log.{Log}
 use Rattle.ialg.specs.Laws.{Laws}
 use Rattle.record_loans.specs.declared.pieces.Pieces.{Pieces}
 use Rattle.space_raw.specs.Span.{Span}
@@ -29,7 +29,7 @@ use Rattle.host_shared.specs.Locations.{location_at, locations_at, shared_at}
 use Rattle.host_shared.specs.Owners.{with_pieces_of, HasOwners, AllHaveOwners, IsSameLocation, SameLocations}
 use Rattle.host_table.specs.Table.{slot_at, group_at, AreHeld, AreBare, no_group, instance_of, own_of, group_of, active_in, slot_active_in, IsHoused, EachIsHoused, Tables, TablesOk, ArePoisoned, activity_at}
 use Rattle.host_map.specs.Activity.{with_at}
-use Rattle.host_table.specs.Refinement.{InstRefines, SlotRefines, SlotsRefine, with_history}
+use Rattle.host_table.specs.Refinement.{InstRefines, SlotRefines, SlotsRefine, with_log}
 use Rattle.host_table.specs.Frames.{SameSlot, SameTables, SameMember}
 use Rattle.lifecycle.proofs.Groups.{same_blocks}
 use Rattle.host_table.proofs.Housing.{housed_stays}
@@ -58,14 +58,14 @@ slot_in (s ∷ instances) zero m at = omega arith
 slot_in (s ∷ instances) (suc i) m at = let less : i < length instances = slot_in instances i m at in omega arith
 
 -- an instance that isn't active in group g doesn't see which words its blocks have
-inst_keeps_other : {M : Type 0} (laws : Laws M) (w : Option ℤ) (groups : List Group) (g k : ℕ) (y : Group) (inst : Inst M) (shared : Pieces) (h : History)
+inst_keeps_other : {M : Type 0} (laws : Laws M) (w : Option ℤ) (groups : List Group) (g k : ℕ) (y : Group) (inst : Inst M) (shared : Pieces) (h : Log)
     → (active_in k inst ≡ Some g → ⊥) → InstRefines laws w inst shared (group_at groups k) h → InstRefines laws w inst shared (group_at (set groups g y) k) h
 inst_keeps_other laws w groups g k y (Idling s) shared h apart keeps = keeps
 inst_keeps_other laws w groups g k y (Running s) shared h apart keeps =
     let other : k ≢ g = λ e. apart (ap Some e) in
     subst (λ (q : Group). InstRefines laws w (Running s) shared q h) (sym (get_or-set_other groups g k y no_group other)) keeps
 
-slot_keeps_other : {M : Type 0} (laws : Laws M) (w : Option ℤ) (groups : List Group) (g : ℕ) (y : Group) (slot : Option (Member M)) (shared : Pieces) (h : History)
+slot_keeps_other : {M : Type 0} (laws : Laws M) (w : Option ℤ) (groups : List Group) (g : ℕ) (y : Group) (slot : Option (Member M)) (shared : Pieces) (h : Log)
     → (slot_active_in slot ≡ Some g → ⊥) → SlotRefines laws w slot shared groups h → SlotRefines laws w slot shared (set groups g y) h
 slot_keeps_other laws w groups g y None shared h apart keeps = tt
 slot_keeps_other laws w groups g y (Some m) shared h apart keeps = inst_keeps_other laws w groups g m.group y m.inst shared h apart keeps
@@ -215,7 +215,7 @@ module _ {M : Type 0} (H : ℕ → Member M → Pieces → Group → Type 0) (in
       ]
 
   -- what the instance in the slot kept
-  kept_here : (laws : Laws M) (w : Option ℤ) (histories : ℕ → History) → SlotsRefine laws w instances sharing groups histories → InstRefines laws w m.inst (shared_at sharing i) (group_at groups g) (histories i)
+  kept_here : (laws : Laws M) (w : Option ℤ) (histories : ℕ → Log) → SlotsRefine laws w instances sharing groups histories → InstRefines laws w m.inst (shared_at sharing i) (group_at groups g) (histories i)
   kept_here laws w histories keeps =
       let here : SlotRefines laws w (Some m) (shared_at sharing i) groups (histories i) = rw in_slot at (keeps i) in
       subst (λ (k : ℕ). InstRefines laws w m.inst (shared_at sharing i) (group_at groups k) (histories i)) of_group here
@@ -254,23 +254,23 @@ module _ {M : Type 0} (H : ℕ → Member M → Pieces → Group → Type 0) (in
     }
 
     -- what the instance keeps in its slot afterwards
-    keeps_here : (laws : Laws M) (w : Option ℤ) (h : History) → InstRefines laws w inst o y h
+    keeps_here : (laws : Laws M) (w : Option ℤ) (h : Log) → InstRefines laws w inst o y h
         → SlotRefines laws w (slot_at (set instances i (Some (record { group = g; inst = inst }))) i) (shared_at sharing' i) (set groups g y) h
     keeps_here laws w h here =
         rw (slot_same, sees.here) (subst (λ (q : Group). InstRefines laws w inst o q h) (sym group_same) here)
 
     -- what each other instance keeps in its slot afterwards
-    keeps_there : (laws : Laws M) (w : Option ℤ) (j : ℕ) → j ≢ i → (h : History) → SlotRefines laws w (slot_at instances j) (shared_at sharing j) groups h
+    keeps_there : (laws : Laws M) (w : Option ℤ) (j : ℕ) → j ≢ i → (h : Log) → SlotRefines laws w (slot_at instances j) (shared_at sharing j) groups h
         → SlotRefines laws w (slot_at (set instances i (Some (record { group = g; inst = inst }))) j) (shared_at sharing' j) (set groups g y) h
     keeps_there laws w j apart h keeps =
         let beside = slot_keeps_other laws w groups g y (slot_at instances j) (shared_at sharing j) h (λ a. apart (alone j (ok.active_known g j a))) keeps in
         rw (slot_other j apart) (slot_sees laws w (shared_at sharing j) (shared_at sharing' j) h (slot_at instances j) (set groups g y) (λ n at lawful. sees.written j n apart at) beside)
 
     -- the instance went on by one step from its history to h
-    pub keeps_by_step : (laws : Laws M) (w : Option ℤ) (histories : ℕ → History) (h : History)
+    pub keeps_by_step : (laws : Laws M) (w : Option ℤ) (histories : ℕ → Log) (h : Log)
         → (InstRefines laws w m.inst (shared_at sharing i) (group_at groups g) (histories i) → InstRefines laws w inst o y h)
         → SlotsRefine laws w instances sharing groups histories
-        → SlotsRefine laws w (set instances i (Some (record { group = g; inst = inst }))) sharing' (set groups g y) (with_history histories i h)
+        → SlotsRefine laws w (set instances i (Some (record { group = g; inst = inst }))) sharing' (set groups g y) (with_log histories i h)
     keeps_by_step laws w histories h step keeps j =
         elim (eqb_tells j i) [
           | inl e ↦ rw (e.0, e.1) (keeps_here laws w h (step (kept_here laws w histories keeps)))
@@ -278,7 +278,7 @@ module _ {M : Type 0} (H : ℕ → Member M → Pieces → Group → Type 0) (in
         ]
 
     -- the instance changed its state alone
-    pub keeps_by_change : (laws : Laws M) (w : Option ℤ) (histories : ℕ → History)
+    pub keeps_by_change : (laws : Laws M) (w : Option ℤ) (histories : ℕ → Log)
         → (InstRefines laws w m.inst (shared_at sharing i) (group_at groups g) (histories i) → InstRefines laws w inst o y (histories i))
         → SlotsRefine laws w instances sharing groups histories
         → SlotsRefine laws w (set instances i (Some (record { group = g; inst = inst }))) sharing' (set groups g y) histories
@@ -307,13 +307,13 @@ module _ {M : Type 0} (H : ℕ → Member M → Pieces → Group → Type 0) (in
         (bare_stays instances (set instances i (Some (record { group = g; inst = inst }))) sharing (with_pieces_of sharing i o) members own_stands ok.bare)
         here there
 
-    pub keeps_after_step : (laws : Laws M) (w : Option ℤ) (histories : ℕ → History) (h : History)
+    pub keeps_after_step : (laws : Laws M) (w : Option ℤ) (histories : ℕ → Log) (h : Log)
         → (InstRefines laws w m.inst (shared_at sharing i) (group_at groups g) (histories i) → InstRefines laws w inst o y h)
         → SlotsRefine laws w instances sharing groups histories
-        → SlotsRefine laws w (set instances i (Some (record { group = g; inst = inst }))) (with_pieces_of sharing i o) (set groups g y) (with_history histories i h)
+        → SlotsRefine laws w (set instances i (Some (record { group = g; inst = inst }))) (with_pieces_of sharing i o) (set groups g y) (with_log histories i h)
     keeps_after_step laws w histories h step keeps = keeps_by_step (with_pieces_of sharing i o) own_sight laws w histories h step keeps
 
-    pub keeps_after_change : (laws : Laws M) (w : Option ℤ) (histories : ℕ → History)
+    pub keeps_after_change : (laws : Laws M) (w : Option ℤ) (histories : ℕ → Log)
         → (InstRefines laws w m.inst (shared_at sharing i) (group_at groups g) (histories i) → InstRefines laws w inst o y (histories i))
         → SlotsRefine laws w instances sharing groups histories
         → SlotsRefine laws w (set instances i (Some (record { group = g; inst = inst }))) (with_pieces_of sharing i o) (set groups g y) histories
@@ -482,7 +482,7 @@ known_active instances sharing groups ok i m at active = ok.active_known m.group
 pub kept_in_slot : {M : Type 0} (instances : List (Option (Member M))) (sharing : List Locations) (groups : List Group)
     (i : ℕ) {m : Member M} {inst : Inst M} {o : Pieces} {y : Group}
     → slot_at instances i ≡ Some m → m.inst ≡ inst → shared_at sharing i ≡ o → group_at groups m.group ≡ y
-    → (laws : Laws M) (w : Option ℤ) (histories : ℕ → History)
+    → (laws : Laws M) (w : Option ℤ) (histories : ℕ → Log)
     → SlotsRefine laws w instances sharing groups histories → InstRefines laws w inst o y (histories i)
 kept_in_slot instances sharing groups i {m} at is once_is group_is laws w histories keeps =
     let here : SlotRefines laws w (Some m) (shared_at sharing i) groups (histories i) = rw at at (keeps i) in

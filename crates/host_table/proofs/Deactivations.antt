@@ -3,6 +3,7 @@ use Rattle.std.proofs.Common.{◌≡◌, ◌<◌, ℕ, ℤ, Option, Some, None, 
 use Rattle.std.specs.Prelude.{IsSome}
 use Rattle.std.proofs.lemmas.Option.{same_Some, none-some}
 use Rattle.mem_rec.specs.declared.TheConstants.{GROUPS}
+use Rattle.ialg.specs.Log.{Log}
 use Rattle.ialg.specs.Laws.{Laws}
 use Rattle.lifecycle.specs.declared.instance.Inst.{Inst}
 use Rattle.lifecycle.specs.declared.instance.Inst.TheVariants.{Idling, Running}
@@ -10,10 +11,10 @@ use Rattle.host_table.specs.declared.member.Member.{Member}
 use Rattle.host_table.specs.Table.{slot_at, group_at, group_of, active_in, slot_active_in, activity_at, deactivated_by, deactivated_in, IsIdleAt}
 use Rattle.host_table.specs.Frames.{SameSlot}
 use Rattle.host_table.specs.View.{View}
-use Rattle.host_table.specs.Steps.{AreConsistent, Deactivates, DeactivatesIn, Ready}
+use Rattle.host_table.specs.Steps.{active_beside, rested, rested_if, AreConsistent, Deactivates, DeactivatesIn, Ready}
 use Rattle.host_table.proofs.Activities.{activity_stays, none_active_after, not_active}
 use Rattle.host_table.proofs.Changes.{member_of, never_active, same_tables}
-use Rattle.host_table.proofs.Stepping.{is_active_there, steps_told}
+use Rattle.host_table.proofs.Stepping.{is_active_there, rested_known, rested_if_known, steps_logged, steps_told}
 
 running_in : {M : Type 0} (k : ℕ) (inst : Inst M) (g : ℕ) → active_in k inst ≡ Some g → k ≡ g
 running_in k (Idling s) g active = absurd (none-some _ active)
@@ -51,8 +52,14 @@ module _ {M : Type 0} {laws : Laws M} {w : Option ℤ} {a b : View M} (g i : ℕ
   told : (k : ℕ) → deactivated_in a.groups g k ≡ deactivated_by a.instances a.groups i k
   told k = rw (active_group (slot_at a.instances i) g active, is_active_there (group_at a.groups g).active i (ok.active_known g i active)) refl
 
+  logged : (histories : ℕ → Log) → rested (activity_at a.groups g).active histories ≡ rested_if i (active_beside a i) histories
+  logged histories =
+      let known = ok.active_known g i active in
+      let same : active_beside a i ≡ Some i = ap (λ (k : ℕ). (activity_at a.groups k).active) (active_group (slot_at a.instances i) g active) ∙ known in
+      sym (rested_known (activity_at a.groups g).active i histories known) ∙ sym (rested_if_known (active_beside a i) i histories same)
+
   pub deactivates : Deactivates laws w i a b
-  deactivates = steps_told told step
+  deactivates = steps_logged logged (steps_told told step)
 
 -- an idle instance is left as it is
 pub idle_stays : {M : Type 0} {laws : Laws M} {w : Option ℤ} {t : View M} (i : ℕ) → IsSome (slot_at t.instances i) → Ready w t → IsIdleAt t.instances i → Deactivates laws w i t t
@@ -66,5 +73,5 @@ idle_stays {t = t} i living ready idle =
       poisoned = ready.poisoned;
       same = same_tables t.instances t.sharing t.groups;
       activity = λ k. rw other (sym (activity_stays (activity_at t.groups) g (activity_at t.groups g) refl refl k));
-      keeps = λ histories kept. kept;
+      keeps = λ histories kept. rw other kept;
     }

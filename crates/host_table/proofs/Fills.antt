@@ -3,7 +3,7 @@ use Rattle.std.proofs.Common.{◌≡◌, ℕ, zero, suc, ℤ, ◌<◌, List, tak
 use Rattle.mem_rec.specs.declared.MemRec.{MemRec}
 use Rattle.mem_rec.specs.declared.Attr.{Attr}
 use Rattle.mem_rec.specs.declared.Attr.TheVariants.{WriteOnce}
-use Rattle.ialg.specs.History.{History}
+use Rattle.ialg.specs.Log.{Log}
 use Rattle.ialg.specs.Records.{record_at, words_of, HoldFill}
 use Rattle.ialg.specs.Laws.{Laws, Relation}
 use Rattle.record_loans.specs.declared.pieces.Pieces.{Pieces}
@@ -43,10 +43,10 @@ active_once rs own shared g k below attr =
 
 -- what each instance that keeps a history has in its write-once records
 abbrev pub Fills : {M : Type 0} → (M → List ℤ → ℕ → List ℤ) → Relation M → Type 0
-Fills {M = M} fill keeps = (kind : M) (p : List ℤ) (rs : List MemRec) (wss : List (List ℤ)) (h : History) → keeps kind p rs wss h → HoldFill (fill kind p) rs wss
+Fills {M = M} fill keeps = (kind : M) (p : List ℤ) (rs : List MemRec) (wss : List (List ℤ)) (h : Log) → keeps kind p rs wss h → HoldFill (fill kind p) rs wss
 
 module _ {M : Type 0} (laws : Laws M) (idle_fill : Fills laws.fill laws.idle_refines) (active_fill : Fills laws.fill laws.active_refines) (w : Option ℤ) where
-  pub fill_seen : (inst : Inst M) (shared : Pieces) (g : Group) (h : History) → InstRefines laws w inst shared g h → IsLawful laws.meaning (instance_of inst) w
+  pub fill_seen : (inst : Inst M) (shared : Pieces) (g : Group) (h : Log) → InstRefines laws w inst shared g h → IsLawful laws.meaning (instance_of inst) w
       → (k : ℕ) → k < 4 → (record_at (instance_of inst).table k).attr ≡ WriteOnce
       → take (record_at (instance_of inst).table k).size (piece_words (piece_at shared k)) ≡ laws.fill (instance_of inst).kind (instance_of inst).params.items k
   fill_seen (Idling s) shared g h keeps lawful k below attr =

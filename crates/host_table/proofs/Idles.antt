@@ -3,7 +3,7 @@ use Rattle.std.proofs.Common.{◌≡◌, ◌≢◌, ℕ, ℤ, ◌<◌, inl, inr,
 use Rattle.std.proofs.lemmas.List.{length-set}
 use Rattle.std.proofs.lemmas.Bool.Decides.{eqb_tells}
 use Rattle.std.proofs.lemmas.Option.{same_Some}
-use Rattle.ialg.specs.History.{History}
+use Rattle.ialg.specs.Log.{Log}
 use Rattle.ialg.specs.Laws.{Laws}
 use Rattle.record_loans.specs.declared.pieces.Pieces.{Pieces}
 use Rattle.scratch_group.specs.declared.group.Group.{Group}
@@ -15,7 +15,7 @@ use Rattle.host_shared.specs.declared.locations.Locations.{Locations}
 use Rattle.host_shared.specs.Owners.{with_pieces_of, SameLocations}
 use Rattle.host_table.specs.Table.{slot_at, AreHeld, AreBare, group_at, instance_of, slot_active_in, IsHoused, EachIsHoused, Tables, TablesOk}
 use Rattle.host_shared.specs.Locations.{shared_at}
-use Rattle.host_table.specs.Refinement.{SlotRefines, SlotsRefine, with_history}
+use Rattle.host_table.specs.Refinement.{SlotRefines, SlotsRefine, with_log}
 use Rattle.host_table.proofs.Housing.{housed_beside}
 use Rattle.host_table.specs.Frames.{SameMember, IsSameMember}
 use Rattle.host_shared.proofs.Lent.{stands_lent, owners_of_all}
@@ -74,18 +74,18 @@ module _ {M : Type 0} (H : ℕ → Member M → Pieces → Group → Type 0) (in
     }
 
     -- the others keep their histories, where the words of write-once records stay
-    pub keeps_by_still : (laws : Laws M) (w : Option ℤ) (histories : ℕ → History) (h : History)
+    pub keeps_by_still : (laws : Laws M) (w : Option ℤ) (histories : ℕ → Log) (h : Log)
         → ((j : ℕ) (n : Member M) → j ≢ i → slot_at instances j ≡ Some n → IsLawful laws.meaning (instance_of n.inst) w → SameOnce (instance_of n.inst).table (shared_at sharing j) (shared_at sharing' j))
         → SlotRefines laws w x o groups h
         → SlotsRefine laws w instances sharing groups histories
-        → SlotsRefine laws w (set instances i x) sharing' groups (with_history histories i h)
+        → SlotsRefine laws w (set instances i x) sharing' groups (with_log histories i h)
     keeps_by_still laws w histories h written new keeps j =
         elim (eqb_tells j i) [
           | inl e ↦ rw (e.0, e.1, slot_same, sees.here) new
           | inr e ↦ rw (e.0, slot_other j e.1) (slot_sees laws w (shared_at sharing j) (shared_at sharing' j) (histories j) (slot_at instances j) groups (λ n at lawful. written j n e.1 at lawful) (keeps j))
         ]
 
-    pub keeps_by_end : (laws : Laws M) (w : Option ℤ) (histories : ℕ → History)
+    pub keeps_by_end : (laws : Laws M) (w : Option ℤ) (histories : ℕ → Log)
         → ((j : ℕ) (n : Member M) → j ≢ i → slot_at instances j ≡ Some n → SameOnce (instance_of n.inst).table (shared_at sharing j) (shared_at sharing' j))
         → SlotRefines laws w x o groups (histories i)
         → SlotsRefine laws w instances sharing groups histories
@@ -118,12 +118,21 @@ module _ {M : Type 0} (H : ℕ → Member M → Pieces → Group → Type 0) (in
         (bare_stays instances (set instances i x) sharing (with_pieces_of sharing i o) members own_stands ok.bare)
         (λ q is. is_new K groups i o n range here q (sym new ∙ is)) there
 
-    pub keeps_after_end : (laws : Laws M) (w : Option ℤ) (histories : ℕ → History)
+    pub keeps_after_end : (laws : Laws M) (w : Option ℤ) (histories : ℕ → Log)
         → SlotRefines laws w x o groups (histories i)
         → SlotsRefine laws w instances sharing groups histories
         → SlotsRefine laws w (set instances i x) (with_pieces_of sharing i o) groups histories
     keeps_after_end laws w histories new keeps =
         keeps_by_end (with_pieces_of sharing i o) (views_of instances sharing i o (with_pieces_of sharing i o) own_sight) laws w histories own_sight.written new keeps
+
+    -- its log went on
+    pub keeps_after_call : (laws : Laws M) (w : Option ℤ) (histories : ℕ → Log) (h : Log)
+        → SlotRefines laws w x o groups h
+        → SlotsRefine laws w instances sharing groups histories
+        → SlotsRefine laws w (set instances i x) (with_pieces_of sharing i o) groups (with_log histories i h)
+    keeps_after_call laws w histories h new keeps =
+        keeps_by_still (with_pieces_of sharing i o) (views_of instances sharing i o (with_pieces_of sharing i o) own_sight) laws w histories h
+        (λ j n apart at lawful. own_sight.written j n apart at) new keeps
 
 pub ok_after_still : {M : Type 0} (instances : List (Option (Member M))) (sharing : List Locations) (groups : List Group) (i : ℕ) (x : Option (Member M)) (o : Pieces) (sharing' : List Locations) → Views sharing i o sharing'
     → AreHeld (set instances i x) sharing' → AreBare (set instances i x) sharing'

@@ -20,7 +20,7 @@ use Rattle.host_table.proofs.Held.{SameSharer, IsSameSharer, sharer_of_member, a
 use Rattle.host_shared.proofs.Handing.{with_told, told_or_not, next_of, without_gone, stays_here, stays_with, goes, next_here, next_there}
 
 -- each piece stands where it stood
-owner_same : (i : ℕ) (s t : Location) → IsSameLocation s t → owner_by i t ≡ owner_by i s
+pub owner_same : (i : ℕ) (s t : Location) → IsSameLocation s t → owner_by i t ≡ owner_by i s
 owner_same i (Here p) (Here q) same = refl
 owner_same i (Here p) (At h) same = absurd same
 owner_same i (At h) t same = ap (owner_by i) same

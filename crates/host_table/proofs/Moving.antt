@@ -4,6 +4,7 @@ use Rattle.std.specs.Prelude.{slice_index_or}
 use Rattle.std.proofs.lemmas.Option.{same_Some}
 use Rattle.mem_rec.specs.declared.Space.{Space}
 use Rattle.mem_rec.specs.declared.TheConstants.{INSTANCES, GROUPS}
+use Rattle.ialg.specs.Log.{called, Moved}
 use Rattle.ialg.specs.Laws.{Laws}
 use Rattle.record_loans.specs.declared.pieces.Pieces.{Pieces}
 use Rattle.record_loans.specs.Blocks.{IsSameBlock}
@@ -22,14 +23,14 @@ use Rattle.host_shared.specs.Owners.{AllHaveOwners, HasOwners, OnlyItsPiecesChan
 use Rattle.host_table.specs.declared.member.Member.{Member}
 use Rattle.host_table.specs.Frames.{InactiveGroupsStay, SameMember}
 use Rattle.host_table.specs.Table.{slot_at, group_at, instance_of, is_member_of, slot_active_in, activity_at, IsHoused, IsTold, SameActivities, TablesTold}
-use Rattle.host_table.specs.Steps.{AllHistoriesStay, MembersAreTold, MembersStay}
+use Rattle.host_table.specs.Steps.{AllLogsGo, MembersAreTold, MembersStay, called_at}
 use Rattle.host_table.specs.View.{View}
 use Rattle.host_table.proofs.Activities.{activity_stays, group_change, inactive_beside}
-use Rattle.host_table.proofs.Changes.{owners_in, read_ok_slot, read_ok_group, kept_in_slot, tables_by_change, keeps_after_change, blocks_stay, pieces_stay, group_inside, once_inside, slot_in}
+use Rattle.host_table.proofs.Changes.{owners_in, read_ok_slot, read_ok_group, kept_in_slot, tables_by_change, keeps_after_step, blocks_stay, pieces_stay, group_inside, once_inside, slot_in}
 use Rattle.host_table.proofs.Held.{in_group, once_unplaced, owners_of_held}
 use Rattle.lifecycle.proofs.Groups.{same_blocks}
 use Rattle.host_table.proofs.Housing.{settled_stays, settled_at}
-use Rattle.host_table.proofs.Idles.{tables_by_quiet, keeps_after_end}
+use Rattle.host_table.proofs.Idles.{tables_by_quiet, keeps_after_call}
 use Rattle.host_table.proofs.Stepping.{tables}
 use Rattle.host_table.proofs.Told.{member_is, is_told, told_here, told_beside, told_member, members_after, members_after_quiet}
 
@@ -96,11 +97,11 @@ module _ {M : Type 0} {instances : List (Option (Member M))} {sharing : List Loc
         rw (← view, seen)
         (members_after_quiet instances sharing groups i m idle idle_sees (slot_in instances i m in_slot) (once_inside instances sharing groups held i m in_slot) all_owners in_slot idle_same did.pieces)
 
-    pub idle_keeps : AllHistoriesStay laws t (tables (set instances i (Some idle)) sharing' groups)
+    pub idle_keeps : AllLogsGo laws t (tables (set instances i (Some idle)) sharing' groups) (called_at i Moved)
     idle_keeps =
         rw (← view, seen)
         (λ w histories kept.
-        keeps_after_end (IsTold g i) instances sharing groups i (Some idle) idle_sees held number was refl m in_slot did.pieces idle_written laws w histories
+        keeps_after_call (IsTold g i) instances sharing groups i (Some idle) idle_sees held number was refl m in_slot did.pieces idle_written laws w histories (called Moved (histories i))
         (did.keeps w (histories i) (kept_in_slot instances sharing groups i in_slot inst_is refl refl laws w histories kept)) kept)
 
   -- the active one
@@ -156,9 +157,9 @@ module _ {M : Type 0} {instances : List (Option (Member M))} {sharing : List Loc
         (λ k. group_change groups g y' (group_inside instances sharing groups held g range) k
         ∙ activity_stays (activity_at groups) g _ (rw (group_in y at_group) did.group.active) (rw (group_in y at_group) did.group.activations) k)
 
-    pub active_keeps : AllHistoriesStay laws t (tables (set instances i (Some active)) sharing' (set groups g y'))
+    pub active_keeps : AllLogsGo laws t (tables (set instances i (Some active)) sharing' (set groups g y')) (called_at i Moved)
     active_keeps =
         rw (← view, of_group, seen)
         (λ w histories kept.
-        keeps_after_change (IsTold g i) instances sharing groups i g m (Running s') active_sees y' held in_slot of_group alone now did.pieces active_written laws w histories
+        keeps_after_step (IsTold g i) instances sharing groups i g m (Running s') active_sees y' held in_slot of_group alone now did.pieces active_written laws w histories (called Moved (histories i))
         (λ before. did.keeps w (histories i) (rw (group_in y at_group, inst_is) at before)) kept)

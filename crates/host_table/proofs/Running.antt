@@ -2,7 +2,8 @@
 use Rattle.std.proofs.Common.{◌≡◌, ◌<◌, ℕ, ℤ, length, inl, inr, List, [], ◌∷◌, ◌++◌, set, Option, Some, None, sym, ◌∙◌, refl, ap, subst}
 use Rattle.std.specs.Prelude.{slice_index_or, IfSome}
 use Rattle.std.proofs.lemmas.Bool.Decides.{eqb_tells}
-use Rattle.ialg.specs.History.{History, Ctl, with_samples}
+use Rattle.ialg.specs.History.{Ctl, with_samples}
+use Rattle.ialg.specs.Log.{Log, fed}
 use Rattle.ialg.specs.Meaning.{Status}
 use Rattle.record_loans.specs.Pieces.{SamePieces}
 use Rattle.scratch_group.specs.Blocks.{SameGroup}
@@ -21,14 +22,14 @@ use Rattle.host_shared.specs.Owners.{with_pieces_of}
 use Rattle.host_table.specs.declared.member.Member.{Member}
 use Rattle.host_table.specs.Table.{slot_at, group_at, instance_of, activity_at, ArePoisoned, IsActiveAt, TablesOk}
 use Rattle.host_table.specs.Refinement.{SlotRefines}
-use Rattle.host_table.specs.Steps.{controlled, given, AreConsistent, AreKept, GivesOut, Steps, TellsOutput}
+use Rattle.host_table.specs.Steps.{active_beside, controlled, given, AreConsistent, AreKept, GivesOut, Steps, TellsOutput}
 use Rattle.host_table.specs.View.{View}
 use Rattle.lifecycle.specs.Turns.{CanBeLent, ControlledSharing, RanSharing}
 use Rattle.lifecycle.proofs.Groups.{same_blocks}
 use Rattle.host_table.proofs.Housing.{lawful_before}
 use Rattle.host_table.proofs.Changes.{same_tables, active_inside, group_inside, read_slot, read_ok_group, once_inside, owners_of_slot, known_active, kept_in_slot, fits_in_slot}
 use Rattle.host_table.proofs.Activities.{activity_stays}
-use Rattle.host_table.proofs.Stepping.{Change, tables, ok_in, steps_after_step, steps_told, touched_stays}
+use Rattle.host_table.proofs.Stepping.{Change, tables, ok_in, steps_after_step, steps_logged, steps_told, touched_stays, turned_active}
 
 -- where the tables were opened: the instance in the slot, which is active, and its group
 pub record IsThere {M : Type 0} (instances : List (Option (Member M))) (sharing : List Locations) (groups : List Group) (i : ℕ) (m : Member M) (s : Active M) (y : Group) : Type 0 where
@@ -143,8 +144,8 @@ module _ {M : Type 0} {instances : List (Option (Member M))} {sharing : List Loc
         _ (λ histories before lawful.
         did.keeps w (histories i) (rw is_running at accepts (lawful_before laws.meaning s.instance s'.instance w did.same lawful)) (rw (there.group, there.running) at before) lawful)
 
-    pub controlled_answers : (histories : ℕ → History) → IsLawful laws.meaning (instance_of k.inst) w → Accepts laws.meaning (instance_of k.inst) c
-        → AreKept laws w (tables instances sharing groups) histories → answer ≡ status_after laws.meaning (instance_of k.inst) (histories i) c
+    pub controlled_answers : (histories : ℕ → Log) → IsLawful laws.meaning (instance_of k.inst) w → Accepts laws.meaning (instance_of k.inst) c
+        → AreKept laws w (tables instances sharing groups) histories → answer ≡ status_after laws.meaning (instance_of k.inst) (histories i).history c
     controlled_answers histories lawful accepts keeps =
         let kept = kept_in_slot _ _ _ _ there.in_slot there.running refl there.group laws w histories keeps in
         rw is_running (did.status w (histories i) (rw is_running at lawful) (rw is_running at accepts) kept)
@@ -155,28 +156,30 @@ module _ {M : Type 0} {instances : List (Option (Member M))} {sharing : List Loc
   told_there laws x None did = tt
   told_there laws x (Some told) did =
       let fits = can_be_lent.fits in
-      let active : (w : Option ℤ) (histories : ℕ → History) → AreKept laws w (tables instances sharing groups) histories → ActiveRefines laws s.instance w (shared_at sharing i) y (histories i) =
+      let active : (w : Option ℤ) (histories : ℕ → Log) → AreKept laws w (tables instances sharing groups) histories → ActiveRefines laws s.instance w (shared_at sharing i) y (histories i) =
       λ w histories kept. kept_in_slot _ _ _ _ there.in_slot there.running refl there.group laws w histories kept in
-      let here : (w : Option ℤ) (h : History) → ActiveRefines laws s.instance w (shared_at sharing i) y h → SlotRefines laws w (slot_at instances i) (shared_at sharing i) groups h =
-      λ w h refines. rw there.in_slot (rw (there.running, there.group) refines) in
+      let here : (w : Option ℤ) (l : Log) → ActiveRefines laws s.instance w (shared_at sharing i) y l → SlotRefines laws w (slot_at instances i) (shared_at sharing i) groups l =
+      λ w l refines. rw there.in_slot (rw (there.running, there.group) refines) in
       record {
         living = rw there.in_slot refl;
         step = λ w ready.
-            steps_told (touched_stays (activity_at groups) _ i (there.ok.active_known _ _ there.active)) (record {
+            let known = there.ok.active_known _ _ there.active in
+            steps_logged {first = given i (x ∷ [])} (λ histories. ap (given i (x ∷ [])) (turned_active (active_beside (tables instances sharing groups) i) i histories known))
+            (steps_told (touched_stays (activity_at groups) _ i known) (record {
               ok = there.ok;
               poisoned = ready.poisoned;
               same = same_tables instances sharing groups;
               activity = λ k. refl;
               keeps = λ histories kept j.
                   elim (eqb_tells j i) [
-                    | inl e ↦ rw (e.0, e.1) (here w (with_samples (histories i) (x ∷ [])) (did.keeps y fits w (histories i) (active w histories kept)))
+                    | inl e ↦ rw (e.0, e.1) (here w (fed (histories i) (x ∷ [])) (did.keeps y fits w (histories i) (active w histories kept)))
                     | inr e ↦ rw e.0 (kept j)
                   ];
-            });
+            }));
         output = λ w histories kept k at lawful.
             let same : m ≡ k = same_Some _ _ (sym there.in_slot ∙ at) in
             let inst : k.inst ≡ Running s = ap (λ q. q.inst) (sym same) ∙ there.running in
             subst
-            (λ (n : Inst M). all_outputs laws.meaning (instance_of n) (with_samples (histories i) (x ∷ [])) ≡ all_outputs laws.meaning (instance_of n) (histories i) ++ (told ∷ []))
+            (λ (n : Inst M). all_outputs laws.meaning (instance_of n) (with_samples (histories i).history (x ∷ [])) ≡ all_outputs laws.meaning (instance_of n) (histories i).history ++ (told ∷ []))
             (sym inst) (did.output y fits w (histories i) (rw inst at lawful) (active w histories kept));
       }

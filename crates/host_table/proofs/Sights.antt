@@ -3,7 +3,7 @@ use Rattle.std.proofs.Common.{◌≡◌, ◌≢◌, ℕ, ℤ, ◌<◌, List, [],
 use Rattle.mem_rec.specs.declared.MemRec.{MemRec}
 use Rattle.mem_rec.specs.declared.Attr.{Attr}
 use Rattle.mem_rec.specs.declared.Attr.TheVariants.{Scratch, Persist, WriteOnce}
-use Rattle.ialg.specs.History.{History}
+use Rattle.ialg.specs.Log.{Log}
 use Rattle.ialg.specs.Records.{record_at}
 use Rattle.ialg.specs.Laws.{Laws}
 use Rattle.record_loans.specs.declared.pieces.Pieces.{Pieces}
@@ -60,7 +60,7 @@ sees_lent instances sharing i m o held inside at pieces written =
     }
 
 -- an instance whose write-once words stay keeps its history: one that is lawful, since the others owe nothing
-module _ {M : Type 0} (laws : Laws M) (w : Option ℤ) (shared shared' : Pieces) (h : History) where
+module _ {M : Type 0} (laws : Laws M) (w : Option ℤ) (shared shared' : Pieces) (h : Log) where
   inst_sees : (inst : Inst M) (g : Group) → (IsLawful laws.meaning (instance_of inst) w → SameOnce (instance_of inst).table shared shared')
       → InstRefines laws w inst shared g h → InstRefines laws w inst shared' g h
   inst_sees (Idling s) g same keeps = λ lawful. rw (idle_written s.instance.table s.instance.own shared shared' (same lawful)) (keeps lawful)

@@ -6,7 +6,7 @@ use Rattle.space_raw.specs.Span.{Span}
 use Rattle.arrayvec.specs.ArrayVec.{ArrayVec}
 use Rattle.mem_rec.specs.declared.MemRec.{MemRec}
 use Rattle.mem_rec.specs.declared.Attr.TheVariants.{WriteOnce}
-use Rattle.ialg.specs.History.{History}
+use Rattle.ialg.specs.Log.{Log}
 use Rattle.ialg.specs.Records.{record_at, words_of, unplaced, AreNew, ArePoison}
 use Rattle.ialg.specs.Laws.{Laws}
 use Rattle.record_loans.specs.declared.pieces.Pieces.{Pieces}
@@ -42,7 +42,7 @@ use Rattle.host_table.proofs.Fills.{Fills, idle_words_at, idle_once, fill_seen}
 use Rattle.lifecycle.specs.Moves.{HasRoom}
 
 -- what an instance keeps, by its slot
-pub keeps_slot : {M : Type 0} (groups : List Group) (laws : Laws M) (w : Option ℤ) (slot : Option (Member M)) (m : Member M) (o : Pieces) (h : History)
+pub keeps_slot : {M : Type 0} (groups : List Group) (laws : Laws M) (w : Option ℤ) (slot : Option (Member M)) (m : Member M) (o : Pieces) (h : Log)
     → slot ≡ Some m → SlotRefines laws w slot o groups h → InstRefines laws w m.inst o (group_at groups m.group) h
 keeps_slot groups laws w slot m o h is kept = rw is at kept
 
@@ -62,7 +62,7 @@ pub room_at : {M : Type 0} (s a : Instance M) (o o' : Pieces) (y y' : Group) →
 room_at {M = M} s a o o' y y' is pieces group room =
     subst (λ (x : Instance M). HasRoom x o' y') is (subst (λ (x : Pieces). HasRoom s x y') pieces (subst (λ (x : Group). HasRoom s o x) group room))
 
-pub idle_inst : {M : Type 0} (laws : Laws M) (w : Option ℤ) (inst : Inst M) (o : Pieces) (y : Group) (h : History) → inst ≡ Idling (record { instance = instance_of inst })
+pub idle_inst : {M : Type 0} (laws : Laws M) (w : Option ℤ) (inst : Inst M) (o : Pieces) (y : Group) (h : Log) → inst ≡ Idling (record { instance = instance_of inst })
     → IdleRefines laws (instance_of inst) w o h → InstRefines laws w inst o y h
 idle_inst {M = M} laws w inst o y h idle kept = subst (λ (x : Inst M). InstRefines laws w x o y h) (sym idle) kept
 
@@ -147,11 +147,11 @@ module _ {M : Type 0} {instances : List (Option (Member M))} {sharing : List Loc
 
     -- where the new instance is lawful, those that share a record with it have the same words in it as before
     module _ (laws : Laws M) (idle_fill : Fills laws.fill laws.idle_refines) (active_fill : Fills laws.fill laws.active_refines) (w : Option ℤ)
-        (g : Group) (h : History) (new : InstRefines laws w n.inst o g h) where
+        (g : Group) (h : Log) (new : InstRefines laws w n.inst o g h) where
       lawful_too : (k : ℕ) (m : Member M) → AreAlike k (instance_of n.inst) (instance_of m.inst) → IsLawful laws.meaning (instance_of m.inst) w → IsLawful laws.meaning (instance_of n.inst) w
       lawful_too k m alike lawful = rw (alike.kind, alike.params) at lawful
 
-      same_words : (j k : ℕ) (m : Member M) (g' : Group) (h' : History) → k < 4 → j ≢ i → slot_at instances j ≡ Some m → IsLawful laws.meaning (instance_of m.inst) w
+      same_words : (j k : ℕ) (m : Member M) (g' : Group) (h' : Log) → k < 4 → j ≢ i → slot_at instances j ≡ Some m → IsLawful laws.meaning (instance_of m.inst) w
           → InstRefines laws w m.inst (shared_at sharing j) g' h' → (record_at (instance_of m.inst).table k).attr ≡ WriteOnce
           → owner_of sharing1 j k ≡ owner_of sharing1 i k
           → take (record_at (instance_of m.inst).table k).size (piece_words (piece_seen sharing' j k)) ≡ take (record_at (instance_of m.inst).table k).size (piece_words (piece_at (shared_at sharing j) k))
@@ -166,7 +166,7 @@ module _ {M : Type 0} {instances : List (Option (Member M))} {sharing : List Loc
           ∙ sym (ap (λ (x : ArrayVec ℤ). laws.fill (instance_of m.inst).kind x.items k) alike.params)
           ∙ sym (fill_seen laws idle_fill active_fill w m.inst (shared_at sharing j) g' h' keeps lawful k below attr)
 
-      words_by_owner : (j k : ℕ) (m : Member M) (g' : Group) (h' : History) → k < 4 → j ≢ i → slot_at instances j ≡ Some m → IsLawful laws.meaning (instance_of m.inst) w
+      words_by_owner : (j k : ℕ) (m : Member M) (g' : Group) (h' : Log) → k < 4 → j ≢ i → slot_at instances j ≡ Some m → IsLawful laws.meaning (instance_of m.inst) w
           → InstRefines laws w m.inst (shared_at sharing j) g' h' → (record_at (instance_of m.inst).table k).attr ≡ WriteOnce
           → take (record_at (instance_of m.inst).table k).size (piece_words (piece_seen sharing' j k)) ≡ take (record_at (instance_of m.inst).table k).size (piece_words (piece_at (shared_at sharing j) k))
       words_by_owner j k m g' h' below apart at lawful keeps attr =
@@ -178,7 +178,7 @@ module _ {M : Type 0} {instances : List (Option (Member M))} {sharing : List Loc
                 ∙ ap (λ (x : Pieces). piece_at x k) (others_all sharing sharing1 i sharers placed owners bare_i b.can b.joined j apart))
           ]
 
-      pub written_start : (j : ℕ) (m : Member M) (g' : Group) (h' : History) → j ≢ i → slot_at instances j ≡ Some m → IsLawful laws.meaning (instance_of m.inst) w
+      pub written_start : (j : ℕ) (m : Member M) (g' : Group) (h' : Log) → j ≢ i → slot_at instances j ≡ Some m → IsLawful laws.meaning (instance_of m.inst) w
           → InstRefines laws w m.inst (shared_at sharing j) g' h' → SameOnce (instance_of m.inst).table (shared_at sharing j) (shared_at sharing' j)
       written_start j m g' h' apart at lawful keeps zero attr = words_by_owner j 0 m g' h' (omega arith) apart at lawful keeps attr
       written_start j m g' h' apart at lawful keeps (suc zero) attr = words_by_owner j 1 m g' h' (omega arith) apart at lawful keeps attr
@@ -188,7 +188,7 @@ module _ {M : Type 0} {instances : List (Option (Member M))} {sharing : List Loc
 
   -- the words that the new instance finds: those of what was placed, and those that its sharers keep
   module _ (laws : Laws M) (idle_fill : Fills laws.fill laws.idle_refines) (active_fill : Fills laws.fill laws.active_refines) (w : Option ℤ)
-      (histories : ℕ → History) (keeps : SlotsRefine laws w instances sharing groups histories) (a : Instance M)
+      (histories : ℕ → Log) (keeps : SlotsRefine laws w instances sharing groups histories) (a : Instance M)
       (kind : (instance_of n.inst).kind ≡ a.kind) (params : (instance_of n.inst).params ≡ a.params) (table : unplaced (instance_of n.inst).table ≡ unplaced a.table)
       (lawful : IsLawful laws.meaning a w) where
     joined_at : (k : ℕ) → k < 4 → piece_at (pieces_joined sharing sharers placed) k ≡ piece_joined sharing k (sharer_at sharers k) (piece_at placed k)

@@ -1,6 +1,6 @@
 -- The start of an instance.
 use Rattle.std.specs.Prelude.{ℕ, ℤ, ◌≡◌, IsTrue, [], Option, Some, None, IsSome}
-use Rattle.ialg.specs.History.{History}
+use Rattle.ialg.specs.Log.{Log, begun}
 use Rattle.ialg.specs.Laws.{Laws}
 use Rattle.ialg.specs.Records.{unplaced, AreNew}
 use Rattle.record_loans.specs.declared.pieces.Pieces.{Pieces}
@@ -15,7 +15,7 @@ use Rattle.host_shared.specs.Locations.{location_at, locations_at, shared_at}
 use Rattle.host_shared.specs.Owners.{IsSameLocation}
 use Rattle.host_table.specs.Table.{slot_at, group_at}
 use Rattle.host_table.specs.Frames.{IsStarted, OthersStay}
-use Rattle.host_table.specs.Refinement.{with_history}
+use Rattle.host_table.specs.Refinement.{with_log}
 use Rattle.host_table.specs.Steps.{AreKept}
 use Rattle.host_table.specs.View.{View}
 use Rattle.host_table.specs.declared.life.NewInstance.{NewInstance}
@@ -27,11 +27,11 @@ asked_for n = asked n.kind n.params.now.items n.table
 -- where the table is the one that its kind asks for, and its records are new ones, a new instance begins its history, and each other
 -- instance keeps the history that it kept
 abbrev pub BeginsHistory : {M : Type 0} → Laws M → NewInstance M → Pieces → Pieces → View M → View M → Type 0
-BeginsHistory laws n own shared old new = (w : Option ℤ) (histories : ℕ → History)
+BeginsHistory laws n own shared old new = (w : Option ℤ) (histories : ℕ → Log)
     → (IsTrue (laws.meaning.lawful n.kind n.params.now.items w) → laws.meaning.table n.kind n.params.now.items ≡ Some (unplaced n.table))
     → AreNew w (laws.fill n.kind n.params.now.items) n.table (idle_words n.table own shared)
     → AreKept laws w old histories
-    → AreKept laws w new (with_history histories n.number [])
+    → AreKept laws w new (with_log histories n.number begun)
 
 -- a new instance with these pieces of its own
 abbrev pub instance_with : {M : Type 0} → NewInstance M → Pieces → Instance M

@@ -1,6 +1,7 @@
 -- What a call of one instance does to the tables. No public contract speaks of it.
 use Rattle.std.specs.Prelude.{ℕ, ℤ, ◌≡◌, List, Option, Some, slice_set}
-use Rattle.ialg.specs.History.{History, Ctl}
+use Rattle.ialg.specs.History.{Ctl}
+use Rattle.ialg.specs.Log.{Log}
 use Rattle.ialg.specs.Meaning.{Status}
 use Rattle.ialg.specs.Laws.{Laws}
 use Rattle.record_loans.specs.declared.pieces.Pieces.{Pieces}
@@ -60,7 +61,7 @@ IsMadeActive {M} i old new = (m : Member M) → slot_at old i ≡ Some m
     → new ≡ slice_set old i (Some (record m { inst = Running (record { instance = instance_of m.inst }) }))
 
 -- as Steps says, in a host of any poison word or of none, where the blocks of groups without an active member hold it
-abbrev pub StepsInAnyHost : {M : Type 0} → Laws M → View M → View M → (ℕ → Activity) → ((ℕ → History) → ℕ → History) → Type 0
+abbrev pub StepsInAnyHost : {M : Type 0} → Laws M → View M → View M → (ℕ → Activity) → ((ℕ → Log) → ℕ → Log) → Type 0
 StepsInAnyHost laws old new activities goes = (w : Option ℤ) → ArePoisoned w old.groups → Steps laws w old new activities goes
 
 -- as GivesOut says, in any such host
@@ -75,7 +76,7 @@ ObeysInAnyHost {M = M} laws i c old new = (w : Option ℤ) (m : Member M) → sl
 
 -- what a lawful instance answers to a control that it takes, in a host of any poison word or of none
 abbrev pub AnswersInAnyHost : {M : Type 0} → Laws M → View M → ℕ → Ctl → Status → Type 0
-AnswersInAnyHost {M = M} laws t i c answer = (w : Option ℤ) (histories : ℕ → History) (m : Member M) → slot_at t.instances i ≡ Some m
+AnswersInAnyHost {M = M} laws t i c answer = (w : Option ℤ) (histories : ℕ → Log) (m : Member M) → slot_at t.instances i ≡ Some m
     → IsLawful laws.meaning (instance_of m.inst) w → Accepts laws.meaning (instance_of m.inst) c
     → AreKept laws w t histories
-    → answer ≡ status_after laws.meaning (instance_of m.inst) (histories i) c
+    → answer ≡ status_after laws.meaning (instance_of m.inst) (histories i).history c

@@ -1,8 +1,9 @@
 //! What an active instance is given.
 ghost use Rattle.std.specs.Prelude.{◌≡◌, ◌≤◌, ℤ, [], length, Option, None, IsSome, IfSome, IfNone, OnSome, is_some};
 ghost use Rattle.ialg.specs.Views.{control_of, answer_of};
+ghost use Rattle.ialg.specs.Log.Called.{Activate};
 ghost use Rattle.host_table.specs.Table.{slot_at, group_of, activity_at, newly_active_in, IsActiveAt, IsIdleAt};
-ghost use Rattle.host_table.specs.Steps.{Ready, Stays, given, GivesOut, AnswersTo, AreConsistent, ActivatesAndControls, ActivatesAndFeeds, SaysWhetherTaken, TellsOutput};
+ghost use Rattle.host_table.specs.Steps.{Ready, Stays, called_at, given, GivesOut, AnswersTo, AreConsistent, ActivatesAndControls, ActivatesAndFeeds, SaysWhetherTaken, TellsOutput};
 ghost use Rattle.host_table.specs.Turns.{AnswersInAnyHost, GivesOutInAnyHost, ObeysInAnyHost, StepsInAnyHost};
 
 use crate::member::make_active;
@@ -46,7 +47,8 @@ impl<M: Ialg> Tables<M> {
         requires empty { out.old.items ≡ [] }
         requires some { 1 ≤ length input.now }
         requires within { length input.now ≤ BLOCK_SAMPLES }
-        ensures step { StepsInAnyHost M.law self.old self.new (newly_active_in self.old.groups g i) (given i input.now) }
+        ensures step { StepsInAnyHost M.law self.old self.new (newly_active_in self.old.groups g i)
+            (λ histories. given i input.now (called_at i Activate histories)) }
         ensures bounded { length out.new.items ≤ length input.now }
         ensures output { GivesOutInAnyHost M.law self.old i input.now out.new.items }
     {

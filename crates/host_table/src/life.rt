@@ -9,7 +9,7 @@ ghost use Rattle.host_table.specs.Table.{slot_at, own_of, instance_of, active_in
 ghost use Rattle.host_table.specs.Sharers.{AreLeastSharers, AreTogether};
 ghost use Rattle.host_shared.specs.Joining.{sharer_at};
 ghost use Rattle.host_shared.specs.Owners.{OnlyItsPiecesChange};
-ghost use Rattle.host_table.specs.Steps.{Ready, AreConsistent, HistoriesStay, WasDeactivated};
+ghost use Rattle.host_table.specs.Steps.{Ready, AreConsistent, LogsGo, WasDeactivated, active_beside, rested_if};
 ghost use Rattle.host_table.specs.Frames.{IsEnded, OtherSlotsStay};
 ghost use Rattle.host_table.specs.Starts.{asked_for, BeginsHistory, HasRoomWithSharers, IsStartedWithSharers, JoinsItsSharers, OtherInstancesStay, SeesItsPieces, SharedHaveNone};
 ghost use Rattle.host_table.specs.Ends.{HandsOnRecords, NextSharersAreLeast, OtherInstancesAreSame, StayTogether};
@@ -51,8 +51,8 @@ fn fill_slot<M: Ialg>(instances: &mut Vec<Option<Member<M>>>, i: u8, member: Mem
     }
 }
 
-/// Starts an instance in an empty slot, in the pieces that were placed for it and those of its sharers, with which it shares the others. It is
-/// idle.
+/// Starts an instance in an empty slot, in the pieces that were placed for it and those of its sharers, with which it shares the others. It
+/// is idle.
 pub fn start<M: Ialg>(
     tables: &mut Tables<M>,
     instance: NewInstance<'_, M>,
@@ -122,7 +122,8 @@ fn start_member<M: Ialg>(inst: &mut Inst<M>, sharing: &mut Vec<Locations>, i: u8
 }
 
 /// Ends an instance, and gives back the pieces of its own records and those of its write-once records that no other instance shares: the
-/// others get a new owner, the next one. An active one is deactivated first. All these pieces come back, whatever its kind answers to algFree.
+/// others get a new owner, the next one. An active one is deactivated first. All these pieces come back, whatever its kind answers to
+/// algFree.
 pub fn end<M: Ialg>(
     tables: &mut Tables<M>,
     poison: Option<i16>,
@@ -143,7 +144,7 @@ pub fn end<M: Ialg>(
     ensures together { StayTogether tables.old tables.new }
     ensures next { NextSharersAreLeast M.law i tables.old tables.new }
     ensures activity { WasDeactivated i tables.old tables.new }
-    ensures keeps { HistoriesStay M.law poison tables.old tables.new }
+    ensures keeps { LogsGo M.law poison tables.old tables.new (rested_if i (active_beside tables.old i)) }
 {
     tables.deactivate(poison, i);
     let own = end_idle(&mut tables.instances, &mut tables.sharing, i);

@@ -1,9 +1,10 @@
 //! What becomes of instances when a block of their group lies elsewhere.
 ghost use Rattle.std.specs.Prelude.{◌≡◌, ◌<◌, ◌+◌, length, true};
 ghost use Rattle.mem_rec.specs.declared.TheConstants.{INSTANCES, GROUPS};
+ghost use Rattle.ialg.specs.Log.Called.{Moved};
 ghost use Rattle.host_table.specs.Table.{slot_at, is_member_of, SameActivities};
 ghost use Rattle.host_table.specs.Frames.{InactiveGroupsStay};
-ghost use Rattle.host_table.specs.Steps.{AreConsistent, AllHistoriesStay, MembersAreTold, MembersStay};
+ghost use Rattle.host_table.specs.Steps.{AreConsistent, AllLogsGo, MembersAreTold, MembersStay, called_at, told_at, told_below};
 
 use crate::Tables;
 use ialg::Ialg;
@@ -31,7 +32,7 @@ fn call_moved_of_member<M: Ialg>(tables: &mut Tables<M>, g: u8, i: usize)
     ensures inactive { InactiveGroupsStay tables.old.groups tables.new.groups }
     ensures same { MembersStay tables.old tables.new }
     ensures activity { SameActivities tables.old.groups tables.new.groups }
-    ensures keeps { AllHistoriesStay M.law tables.old tables.new }
+    ensures keeps { AllLogsGo M.law tables.old tables.new (called_at i Moved) }
 {
     match &mut tables.instances[i] {
         Some(member) => match &mut member.inst {
@@ -55,7 +56,7 @@ fn call_moved_in_slot<M: Ialg>(tables: &mut Tables<M>, g: u8, i: usize)
     ensures inactive { InactiveGroupsStay tables.old.groups tables.new.groups }
     ensures same { MembersStay tables.old tables.new }
     ensures activity { SameActivities tables.old.groups tables.new.groups }
-    ensures keeps { AllHistoriesStay M.law tables.old tables.new }
+    ensures keeps { AllLogsGo M.law tables.old tables.new (told_at g i tables.old) }
 {
     if is_member(tables, g, i) {
         call_moved_of_member(tables, g, i);
@@ -70,7 +71,7 @@ pub fn call_moved_in_group<M: Ialg>(tables: &mut Tables<M>, g: u8)
     ensures inactive { InactiveGroupsStay tables.old.groups tables.new.groups }
     ensures same { MembersStay tables.old tables.new }
     ensures activity { SameActivities tables.old.groups tables.new.groups }
-    ensures keeps { AllHistoriesStay M.law tables.old tables.new }
+    ensures keeps { AllLogsGo M.law tables.old tables.new (told_below g INSTANCES tables.old) }
 {
     for i in 0..INSTANCES {
         call_moved_in_slot(tables, g, i);

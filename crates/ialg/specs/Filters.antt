@@ -69,12 +69,12 @@ abbrev pub RunningRelation : Type 1
 RunningRelation = List ℤ → History → List ℤ → List ℤ → Type 0
 
 -- the laws of a filter whose objects have this kind word: `rests` says which words keep a history of an idle instance, and `runs` of an
--- active one
+-- active one. Nothing is kept of the calls
 abbrev pub filter_laws : {M : Type 0} → ℤ → FilterMeaning → KeptRelation → RunningRelation → Laws M
 filter_laws kind filter rests runs = record {
   meaning = meaning_of filter;
   bound = λ _. FILTER_RECORDS;
   fill = λ _ p k. [];
-  idle_refines = λ _ p rs wss h. IsIdle kind (filter.memory p) (rests p h) rs wss;
-  active_refines = λ _ p rs wss h. IsActive kind (filter.memory p) (runs p h) rs wss;
+  idle_refines = λ _ p rs wss l. IsIdle kind (filter.memory p) (rests p l.history) rs wss;
+  active_refines = λ _ p rs wss l. IsActive kind (filter.memory p) (runs p l.history) rs wss;
 }

@@ -1,14 +1,14 @@
--- What an algorithm type means, and which words refine a history of an instance.
+-- What an algorithm type means, and which words refine a log of an instance.
 use Rattle.std.specs.Prelude.{ℕ, ℤ, List}
 use Rattle.mem_rec.specs.declared.MemRec.{MemRec}
-use Rattle.ialg.specs.History.{History}
+use Rattle.ialg.specs.Log.{Log}
 use Rattle.ialg.specs.Meaning.{Meaning}
 
--- whether words refine a history, by the kind, its parameters and its table
+-- whether words refine a log, by the kind, its parameters and its table
 abbrev pub Relation : Type 0 → Type 1
-Relation M = M → List ℤ → List MemRec → List (List ℤ) → History → Type 0
+Relation M = M → List ℤ → List MemRec → List (List ℤ) → Log → Type 0
 
--- what the kinds mean without code and memory; what is told of their records; and what refines a history: of an idle instance the words of the
+-- what the kinds mean without code and memory; what is told of their records; and what refines a log: of an idle instance the words of the
 -- records that last, of an active one the words of all its records
 pub record Laws (M : Type 0) : Type 1 where
   pub meaning : Meaning M

@@ -125,13 +125,13 @@ impl<K: Filter> Ialg for K {
 
     ghost compared = { λ a b. ap (λ x. ⟦<K as PartialEq>⟧.eq x b) (K.one a b) ∙ K.Eq.laws.refl b };
 
-    ghost idle_words = { λ _ p rs wss h keeps. K.rests_words p h _ keeps.keeps };
+    ghost idle_words = { λ _ p rs wss l keeps. K.rests_words p l.history _ keeps.keeps };
 
-    ghost active_words = { λ _ p rs wss h keeps. K.runs_words p h _ _ keeps.keeps };
+    ghost active_words = { λ _ p rs wss l keeps. K.runs_words p l.history _ _ keeps.keeps };
 
-    ghost idle_fill = { λ _ p rs wss h keeps k once. absurd (keeps.placed.none_once k once) };
+    ghost idle_fill = { λ _ p rs wss l keeps k once. absurd (keeps.placed.none_once k once) };
 
-    ghost active_fill = { λ _ p rs wss h keeps k once. absurd (keeps.placed.none_once k once) };
+    ghost active_fill = { λ _ p rs wss l keeps k once. absurd (keeps.placed.none_once k once) };
 }
 
 /// The records of a filter that asks for this memory.

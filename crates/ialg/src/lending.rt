@@ -17,6 +17,7 @@ pub trait Step<O> {
     // what it does to the words of the records, before and after, and to `out`
     ghost done: { Self → List MemRec → Bool → List (List ℤ) → List (List ℤ) → O → O → Type 0 };
 
+    /// Performs the step with the records that are lent.
     fn perform(&self, mem: &mut Lent<'_>, out: &mut O)
         requires { can self.now out.old }
         ensures loans { SameLoans mem.old mem.new }
@@ -45,7 +46,8 @@ pub fn lend<O, S: Step<O>>(
     out: &mut O,
 )
     requires { S.can lending.now.step.now out.old }
-    ensures done { S.done lending.now.step.now lending.now.table.now lending.now.writable (r0.old ∷ r1.old ∷ r2.old ∷ r3.old ∷ []) (r0.new ∷ r1.new ∷ r2.new ∷ r3.new ∷ []) out.old out.new }
+    ensures done { S.done lending.now.step.now lending.now.table.now lending.now.writable (r0.old ∷ r1.old ∷ r2.old ∷ r3.old ∷ []) (r0.new ∷ r1.new
+        ∷ r2.new ∷ r3.new ∷ []) out.old out.new }
     ensures once { KeepsOnce lending.now (r0.old ∷ r1.old ∷ r2.old ∷ r3.old ∷ []) (r0.new ∷ r1.new ∷ r2.new ∷ r3.new ∷ []) }
 {
     let mut mem = Lent {
@@ -61,8 +63,8 @@ pub fn lend<O, S: Step<O>>(
 
 /// Gives the kind a block of samples, as [`Ialg::process`] does, with the loans moved to a place of their own.
 ///
-/// It is for a kind that is one of several: no kind gets the place of `mem` itself, so the compiler has the loans in registers where it finds out which
-/// kind it is, and one that only reads a record, as a decoder, never has them written to memory.
+/// It is for a kind that is one of several: no kind gets the place of `mem` itself, so the compiler has the loans in registers where it
+/// finds out which kind it is, and one that only reads a record, as a decoder, never has them written to memory.
 #[inline(always)]
 pub fn process_apart<M: Ialg>(kind: &M, mem: &mut Lent<'_>, input: &[i16], out: &mut Block)
     requires empty { out.old.items ≡ [] }

@@ -1,7 +1,7 @@
 -- A kind of either of two sets: what it means, what its words keep, and its name.
 use Rattle.std.specs.Prelude.{ℕ, ℤ, Bool, false, List, Option, Some, None}
 use Rattle.mem_rec.specs.declared.MemRec.{MemRec}
-use Rattle.ialg.specs.History.{History}
+use Rattle.ialg.specs.Log.{Log}
 use Rattle.ialg.specs.Meaning.{Meaning}
 use Rattle.kind_parts.specs.declared.either.Or.{Or}
 use Rattle.kind_parts.specs.declared.either.Or.TheVariants.{First, Second}
@@ -31,8 +31,8 @@ either_means a b = record {
 }
 
 -- its words refine a history as its own set says
-abbrev pub either_refines : {A B : Type 0} → (A → List ℤ → List MemRec → List (List ℤ) → History → Type 0)
-    → (B → List ℤ → List MemRec → List (List ℤ) → History → Type 0) → Or A B → List ℤ → List MemRec → List (List ℤ) → History → Type 0
+abbrev pub either_refines : {A B : Type 0} → (A → List ℤ → List MemRec → List (List ℤ) → Log → Type 0)
+    → (B → List ℤ → List MemRec → List (List ℤ) → Log → Type 0) → Or A B → List ℤ → List MemRec → List (List ℤ) → Log → Type 0
 either_refines f g (First a) = f a
 either_refines f g (Second b) = g b
 

@@ -1,10 +1,10 @@
 // SPDX-License-Identifier: Apache-2.0
 //! Kinds of two shapes by a few lines each, and the parts of which others are made.
 //!
-//! A [`Mapping`] says what each sample gives by the words in force, and [`Mapped`] is the kind. A [`Framing`] says what a frame of samples has
-//! as its state and what is told of it, and [`Framed`] is the kind. Both are filters, and so keep every law. Kinds whose state lasts from
-//! sample to sample stand in `kind_steps`. A filter of another shape finds words of parameters, sums of 32 bits in two words, frames, and
-//! what a run over a block goes on with.
+//! A [`Mapping`] says what each sample gives by the words in force, and [`Mapped`] is the kind. A [`Framing`] says what a frame of samples
+//! has as its state and what is told of it, and [`Framed`] is the kind. Both are filters, and so keep every law. Kinds whose state lasts
+//! from sample to sample stand in `kind_steps`. A filter of another shape finds words of parameters, sums of 32 bits in two words, frames,
+//! and what a run over a block goes on with.
 //!
 //! [`Or`] makes one set of two as a type: a kind of either, lawful where both are.
 #![tactic(auto)]

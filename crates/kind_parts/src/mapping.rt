@@ -45,7 +45,8 @@ pub trait Mapping: Copy + Eq {
         ensures { result ≡ value words.now x };
 }
 
-/// A kind that gives one word for each sample, by the words in force alone: those of the last `set`, and the parameters where there was none.
+/// A kind that gives one word for each sample, by the words in force alone: those of the last `set`, and the parameters where there was
+/// none.
 ///
 /// The kept words are those in force. The running word isn't used.
 #[derive(Clone, Copy, PartialEq, Eq, Debug)]

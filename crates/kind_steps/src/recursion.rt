@@ -12,8 +12,8 @@ use std::marker::PhantomData;
 
 /// What makes a kind of [`Recursive`]: a state, and what a sample makes of it and gives.
 ///
-/// The state is a value: it is read from its words before a block and written to them behind it. What the parameters name is read once a block
-/// too.
+/// The state is a value: it is read from its words before a block and written to them behind it. What the parameters name is read once a
+/// block too.
 pub trait Recursion: Copy + Eq {
     ghost use Rattle.kind_parts.specs.declared.words.TheConstants.{MOST_STATE_WORDS};
 

@@ -3,7 +3,7 @@ use Rattle.std.proofs.Common.{◌≡◌, ℕ, ℤ, zero, suc, List, [], ◌∷�
 use Rattle.std.specs.Prelude.{IfSome}
 use Rattle.mem_rec.specs.declared.MemRec.{MemRec}
 use Rattle.mem_rec.specs.declared.Attr.TheVariants.{WriteOnce}
-use Rattle.ialg.specs.History.{History, with_samples}
+use Rattle.ialg.specs.Log.{Log, fed}
 use Rattle.ialg.specs.Laws.{Laws}
 use Rattle.ialg.specs.Records.{record_at}
 use Rattle.record_loans.specs.declared.pieces.Pieces.{Pieces}
@@ -36,21 +36,21 @@ module _ (rs : List MemRec) (second : (k : ℕ) → (record_at rs k).attr ≡ Wr
     spaces = record { own_space = fits.spaces.own_space; shared_space = second_in_space own a g fits.spaces; block_space = fits.spaces.block_space };
   }
 
-  active_like : {M : Type 0} (laws : Laws M) (s : Instance M) (w : Option ℤ) (a b : Pieces) (g : Group) (h : History) → s.table ≡ rs → SameOnce rs a b
-      → ActiveRefines laws s w a g h → ActiveRefines laws s w b g h
-  active_like laws s w a b g h table same keeps lawful = rw (active_written s.table s.own a b g (rw table same)) (keeps lawful)
+  active_like : {M : Type 0} (laws : Laws M) (s : Instance M) (w : Option ℤ) (a b : Pieces) (g : Group) (l : Log) → s.table ≡ rs → SameOnce rs a b
+      → ActiveRefines laws s w a g l → ActiveRefines laws s w b g l
+  active_like laws s w a b g l table same keeps lawful = rw (active_written s.table s.own a b g (rw table same)) (keeps lawful)
 
   -- what was told by the piece of the second record alone
   pub told_second : {M : Type 0} (laws : Laws M) (s : Instance M) (a : Pieces) (x : ℤ) (told : Option ℤ) → s.table ≡ rs
       → IfSome told (TellsOutput laws s (only_second a.p1) x) → IfSome told (TellsOutput laws s a x)
   told_second laws s a x None table did = tt
   told_second laws s a x (Some y) table did =
-      let alone : (w : Option ℤ) (g : Group) (h : History) → ActiveRefines laws s w a g h → ActiveRefines laws s w (only_second a.p1) g h =
-      λ w g h before. active_like laws s w a (only_second a.p1) g h table (second_alone a) before in
+      let alone : (w : Option ℤ) (g : Group) (l : Log) → ActiveRefines laws s w a g l → ActiveRefines laws s w (only_second a.p1) g l =
+      λ w g l before. active_like laws s w a (only_second a.p1) g l table (second_alone a) before in
       let fits_alone : (g : Group) → Fits s.table s.own a g → Fits s.table s.own (only_second a.p1) g =
       λ g fits. rw table (fits_second s.own a g (rw (sym table) fits)) in
       record {
-        keeps = λ g fits w h before.
-            active_like laws s w (only_second a.p1) a g (with_samples h (x ∷ [])) table (second_among a) (did.keeps g (fits_alone g fits) w h (alone w g h before));
-        output = λ g fits w h lawful before. did.output g (fits_alone g fits) w h lawful (alone w g h before);
+        keeps = λ g fits w l before.
+            active_like laws s w (only_second a.p1) a g (fed l (x ∷ [])) table (second_among a) (did.keeps g (fits_alone g fits) w l (alone w g l before));
+        output = λ g fits w l lawful before. did.output g (fits_alone g fits) w l lawful (alone w g l before);
       }

@@ -3,7 +3,7 @@ use Rattle.std.proofs.Common.{◌≡◌, ℤ, List, [], ◌∷◌, take, Option,
 use Rattle.std.specs.Prelude.{IfSome}
 use Rattle.space_raw.specs.Span.{Span}
 use Rattle.ialg.specs.Calls.{TellsOutput as TheKindTells}
-use Rattle.ialg.specs.History.{History, with_samples}
+use Rattle.ialg.specs.Log.{Log, fed}
 use Rattle.ialg.specs.Laws.{Laws}
 use Rattle.ialg.specs.Records.{AllLent}
 use Rattle.record_loans.specs.declared.plan.ReaderSizes.{ReaderSizes}
@@ -24,17 +24,17 @@ module _ {M : Type 0} (laws : Laws M) (s : Instance M) (n : ReaderSizes) (reader
   all_lent : (g : Group) → FitsIn s (only_second once) g → AllLent s.table (object ∷ words ∷ [] ∷ [] ∷ [])
   all_lent g fits = subst (AllLent s.table) (lent g) fits.lent
 
-  kept : (g : Group) (w : Option ℤ) (h : History) → IsLawful laws.meaning s w → ActiveRefines laws s w (only_second once) g h
-      → laws.active_refines s.kind s.params.items s.table (object ∷ words ∷ [] ∷ [] ∷ []) h
-  kept g w h lawful before = subst (λ (wss : List (List ℤ)). laws.active_refines s.kind s.params.items s.table wss h) (lent g) (before lawful)
+  kept : (g : Group) (w : Option ℤ) (l : Log) → IsLawful laws.meaning s w → ActiveRefines laws s w (only_second once) g l
+      → laws.active_refines s.kind s.params.items s.table (object ∷ words ∷ [] ∷ [] ∷ []) l
+  kept g w l lawful before = subst (λ (wss : List (List ℤ)). laws.active_refines s.kind s.params.items s.table wss l) (lent g) (before lawful)
 
   -- what the kind tells by these words, the instance gives
   pub told_by_words : (x : ℤ) (told : Option ℤ) → IfSome told (TheKindTells laws s.kind (object ∷ words ∷ [] ∷ [] ∷ []) x)
       → IfSome told (TellsOutput laws s (only_second once) x)
   told_by_words x None law = tt
   told_by_words x (Some y) law = record {
-    keeps = λ g fits w h before lawful.
-        subst (λ (wss : List (List ℤ)). laws.active_refines s.kind s.params.items s.table wss (with_samples h (x ∷ []))) (sym (lent g))
-        (law s.params.items w h s.table lawful (all_lent g fits) (kept g w h lawful before)).0;
-    output = λ g fits w h lawful before. (law s.params.items w h s.table lawful (all_lent g fits) (kept g w h lawful before)).1;
+    keeps = λ g fits w l before lawful.
+        subst (λ (wss : List (List ℤ)). laws.active_refines s.kind s.params.items s.table wss (fed l (x ∷ []))) (sym (lent g))
+        (law s.params.items w l s.table lawful (all_lent g fits) (kept g w l lawful before)).0;
+    output = λ g fits w l lawful before. (law s.params.items w l s.table lawful (all_lent g fits) (kept g w l lawful before)).1;
   }

@@ -1,8 +1,9 @@
--- When an instance refines a history.
+-- When an instance refines a log.
 use Rattle.std.specs.Prelude.{ℕ, ℤ, ◌≡◌, IsTrue, List, take, Option, Bool}
 use Rattle.mem_rec.specs.declared.MemRec.{MemRec}
 use Rattle.mem_rec.specs.declared.Attr.TheVariants.{WriteOnce}
 use Rattle.ialg.specs.History.{History, Ctl}
+use Rattle.ialg.specs.Log.{Log}
 use Rattle.ialg.specs.Meaning.{Meaning, Status, outputs_of, status_of}
 use Rattle.ialg.specs.Records.{record_at, AllLent}
 use Rattle.ialg.specs.Laws.{Laws}
@@ -53,12 +54,12 @@ all_outputs meaning s h = outputs_of meaning s.kind s.params.items h
 abbrev pub status_after : {M : Type 0} → Meaning M → Instance M → History → Ctl → Status
 status_after meaning s h c = status_of meaning s.kind s.params.items h c
 
--- an idle instance refines a history by its own pieces and those of its write-once records. An unlawful one owes nothing
-abbrev pub IdleRefines : {M : Type 0} → Laws M → Instance M → Option ℤ → Pieces → History → Type 0
-IdleRefines laws s w shared h = IsLawful laws.meaning s w
-    → laws.idle_refines s.kind s.params.items s.table (idle_words s.table s.own shared) h
+-- an idle instance refines a log by its own pieces and those of its write-once records. An unlawful one owes nothing
+abbrev pub IdleRefines : {M : Type 0} → Laws M → Instance M → Option ℤ → Pieces → Log → Type 0
+IdleRefines laws s w shared l = IsLawful laws.meaning s w
+    → laws.idle_refines s.kind s.params.items s.table (idle_words s.table s.own shared) l
 
 -- an active one by these and its group's blocks
-abbrev pub ActiveRefines : {M : Type 0} → Laws M → Instance M → Option ℤ → Pieces → Group → History → Type 0
-ActiveRefines laws s w shared g h = IsLawful laws.meaning s w
-    → laws.active_refines s.kind s.params.items s.table (active_words s.table s.own shared g) h
+abbrev pub ActiveRefines : {M : Type 0} → Laws M → Instance M → Option ℤ → Pieces → Group → Log → Type 0
+ActiveRefines laws s w shared g l = IsLawful laws.meaning s w
+    → laws.active_refines s.kind s.params.items s.table (active_words s.table s.own shared g) l

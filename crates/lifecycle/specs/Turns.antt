@@ -2,7 +2,8 @@
 use Rattle.std.specs.Prelude.{ℕ, ℤ, ◌≡◌, ◌++◌, ◌<◌, ◌≤◌, List, [], length, Option, Some, None}
 use Rattle.space_raw.specs.Span.{Span}
 use Rattle.mem_rec.specs.declared.Space.{Space}
-use Rattle.ialg.specs.History.{History, Ctl, with_samples}
+use Rattle.ialg.specs.History.{Ctl, with_samples}
+use Rattle.ialg.specs.Log.{Log, begun, called, fed, Activate, Deactivate, Moved}
 use Rattle.ialg.specs.Meaning.{Status}
 use Rattle.ialg.specs.Laws.{Laws}
 use Rattle.ialg.specs.Records.{unplaced, AreNew}
@@ -43,14 +44,14 @@ pub record CanBegin {M : Type 0} (s : Instance M) (sharing : List Locations) (i 
 abbrev pub CanBeLentAgain : {M : Type 0} → Instance M → Option (ℕ × Span) → List Locations → ℕ → Group → Type 0
 CanBeLentAgain s back sharing i g = CanBegin (with_back s back) sharing i g
 
--- an idle instance was started: where the table is the one that its kind asks for, and its records are new ones, it begins its history
+-- an idle instance was started: where the table is the one that its kind asks for, and its records are new ones, it begins its log
 pub record HasBegun {M : Type 0} (laws : Laws M) (old new : Instance M) (shared shared' : Pieces) (g : Group) : Type 0 where
   pub same : SameInstance (settled old shared g) new
   pub pieces : SamePieces shared shared'
   pub fits : Fits new.table new.own shared' g
   pub keeps : (w : Option ℤ) → laws.meaning.table old.kind old.params.items ≡ Some (unplaced old.table)
       → AreNew w (laws.fill old.kind old.params.items) old.table (idle_words old.table old.own shared)
-      → IdleRefines laws new w shared' []
+      → IdleRefines laws new w shared' begun
 
 -- the idle instance of this number was started, and its pieces are at their owners
 pub record WasStarted {M : Type 0} (laws : Laws M) (i : ℕ) (old new : Idle M) (sharing sharing' : List Locations) (g : Group) : Type 0 where
@@ -66,7 +67,7 @@ pub record Deactivated {M : Type 0} (laws : Laws M) (poison : Option ℤ) (old n
   pub active : g'.active ≡ None
   pub activations : g'.activations ≡ g.activations
   pub poisoned : BlocksArePoison poison g'
-  pub keeps : (w : Option ℤ) (h : History) → ActiveRefines laws old w shared g h → IdleRefines laws new w shared' h
+  pub keeps : (w : Option ℤ) (l : Log) → ActiveRefines laws old w shared g l → IdleRefines laws new w shared' (called Deactivate l)
 
 -- an idle one was activated
 pub record Activated {M : Type 0} (laws : Laws M) (i : ℕ) (old new : Instance M) (shared shared' : Pieces) (g g' : Group) : Type 0 where
@@ -76,7 +77,8 @@ pub record Activated {M : Type 0} (laws : Laws M) (i : ℕ) (old new : Instance 
   pub blocks : (space : Space) → IsSameBlock (block_in g space) (block_in g' space)
   pub active : g'.active ≡ Some i
   pub activations : g'.activations ≡ count_after g.activations (Some i)
-  pub keeps : (w : Option ℤ) (h : History) → BlocksArePoison w g → IdleRefines laws old w shared h → ActiveRefines laws new w shared' g' h
+  pub keeps : (w : Option ℤ) (l : Log) → BlocksArePoison w g → IdleRefines laws old w shared l
+      → ActiveRefines laws new w shared' g' (called Activate l)
 
 -- an idle one was activated, and was given samples
 pub record ActivatedAndRan {M : Type 0} (laws : Laws M) (i : ℕ) (input out : List ℤ) (old new : Instance M) (shared shared' : Pieces) (g g' : Group) : Type 0 where
@@ -87,10 +89,10 @@ pub record ActivatedAndRan {M : Type 0} (laws : Laws M) (i : ℕ) (input out : L
   pub active : g'.active ≡ Some i
   pub activations : g'.activations ≡ count_after g.activations (Some i)
   pub bounded : length out ≤ length input
-  pub keeps : (w : Option ℤ) (h : History) → BlocksArePoison w g → IdleRefines laws old w shared h
-      → ActiveRefines laws new w shared' g' (with_samples h input)
-  pub output : (w : Option ℤ) (h : History) → IsLawful laws.meaning old w → BlocksArePoison w g → IdleRefines laws old w shared h
-      → all_outputs laws.meaning old (with_samples h input) ≡ all_outputs laws.meaning old h ++ out
+  pub keeps : (w : Option ℤ) (l : Log) → BlocksArePoison w g → IdleRefines laws old w shared l
+      → ActiveRefines laws new w shared' g' (fed (called Activate l) input)
+  pub output : (w : Option ℤ) (l : Log) → IsLawful laws.meaning old w → BlocksArePoison w g → IdleRefines laws old w shared l
+      → all_outputs laws.meaning old (with_samples l.history input) ≡ all_outputs laws.meaning old l.history ++ out
 
 -- an active one was given samples
 pub record Ran {M : Type 0} (laws : Laws M) (input out : List ℤ) (old new : Instance M) (shared shared' : Pieces) (g g' : Group) : Type 0 where
@@ -99,9 +101,9 @@ pub record Ran {M : Type 0} (laws : Laws M) (input out : List ℤ) (old new : In
   pub written : SameOnce old.table shared shared'
   pub group : SameGroup g g'
   pub bounded : length out ≤ length input
-  pub keeps : (w : Option ℤ) (h : History) → ActiveRefines laws old w shared g h → ActiveRefines laws new w shared' g' (with_samples h input)
-  pub output : (w : Option ℤ) (h : History) → IsLawful laws.meaning old w → ActiveRefines laws old w shared g h
-      → all_outputs laws.meaning old (with_samples h input) ≡ all_outputs laws.meaning old h ++ out
+  pub keeps : (w : Option ℤ) (l : Log) → ActiveRefines laws old w shared g l → ActiveRefines laws new w shared' g' (fed l input)
+  pub output : (w : Option ℤ) (l : Log) → IsLawful laws.meaning old w → ActiveRefines laws old w shared g l
+      → all_outputs laws.meaning old (with_samples l.history input) ≡ all_outputs laws.meaning old l.history ++ out
 
 -- an active one was given a control
 pub record Controlled {M : Type 0} (laws : Laws M) (c : Ctl) (answer : Status) (old new : Instance M) (shared shared' : Pieces) (g g' : Group) : Type 0 where
@@ -124,7 +126,7 @@ pub record Follows {M : Type 0} (laws : Laws M) (back : Option (ℕ × Span)) (o
   pub pieces : SamePieces shared shared'
   pub written : SameOnce new.table shared shared'
   pub fits : Fits new.table new.own shared' g
-  pub keeps : (w : Option ℤ) (h : History) → IdleRefines laws (with_back old back) w shared h → IdleRefines laws new w shared' h
+  pub keeps : (w : Option ℤ) (l : Log) → IdleRefines laws (with_back old back) w shared l → IdleRefines laws new w shared' (called Moved l)
 
 -- an active instance was told, with the piece that comes back: it works in the same scratch memory
 pub record ActiveFollows {M : Type 0} (laws : Laws M) (back : Option (ℕ × Span)) (old new : Instance M) (shared shared' : Pieces) (g g' : Group) : Type 0 where
@@ -133,7 +135,8 @@ pub record ActiveFollows {M : Type 0} (laws : Laws M) (back : Option (ℕ × Spa
   pub written : SameOnce new.table shared shared'
   pub group : SameGroup g g'
   pub fits : Fits new.table new.own shared' g'
-  pub keeps : (w : Option ℤ) (h : History) → ActiveRefines laws (with_back old back) w shared g h → ActiveRefines laws new w shared' g' h
+  pub keeps : (w : Option ℤ) (l : Log) → ActiveRefines laws (with_back old back) w shared g l
+      → ActiveRefines laws new w shared' g' (called Moved l)
 
 -- each of these of instance i, whose write-once records are at their owners
 

@@ -107,7 +107,8 @@ impl<M: Ialg> Active<M> {
     ) -> Status
         requires lent { CanBeLent self.old.instance sharing.old.items i group.old }
         ensures seen { OnlyItsPiecesChange i sharing.old.items sharing.new.items }
-        ensures did { ControlledSharing M.law i (control_of c.now) (answer_of result) self.old self.new sharing.old.items sharing.new.items group.old group.new }
+        ensures did { ControlledSharing M.law i (control_of c.now) (answer_of result) self.old self.new sharing.old.items sharing.new.items group.old
+            group.new }
         ensures lent { CanBeLent self.new.instance sharing.new.items i group.new }
     {
         let step = Command {
@@ -130,8 +131,8 @@ impl<M: Ialg> Active<M> {
         answer
     }
 
-    /// Saves what has to last of the scratch records, which are lent to the instance of this number no longer: its group has no active member
-    /// then, and in a host of a poison word its blocks are filled with it. [`into_idle`](Active::into_idle) has to follow.
+    /// Saves what has to last of the scratch records, which are lent to the instance of this number no longer: its group has no active
+    /// member then, and in a host of a poison word its blocks are filled with it. [`into_idle`](Active::into_idle) has to follow.
     #[inline(always)]
     pub fn deactivate(
         &mut self,

@@ -74,8 +74,8 @@ impl<M: Ialg> Idle<M> {
         );
     }
 
-    /// Prepares the scratch records, which are lent to the instance of this number from now on: it is the active member of its group, which had
-    /// none. [`into_active`](Idle::into_active) has to follow.
+    /// Prepares the scratch records, which are lent to the instance of this number from now on: it is the active member of its group, which
+    /// had none. [`into_active`](Idle::into_active) has to follow.
     pub fn activate(&mut self, sharing: &mut Vec<Locations>, i: u8, group: &mut Group)
         requires lent { CanBeLent self.old.instance sharing.old.items i group.old }
         ensures seen { OnlyItsPiecesChange i sharing.old.items sharing.new.items }

@@ -8,11 +8,11 @@ use record_loans::Pieces;
 use scratch_group::LentTable;
 use space_raw::Piece;
 
-/// An instance: its kind, its table with bases and with the way in which its records are lent, the pieces of its persistent records, and its
-/// parameters.
+/// An instance: its kind, its table with bases and with the way in which its records are lent, the pieces of its persistent records, and
+/// its parameters.
 ///
-/// What a block of samples takes stands side by side, so that the caches of a small processor hold it for many instances. The parameters, which
-/// none of that needs, stand behind it.
+/// What a block of samples takes stands side by side, so that the caches of a small processor hold it for many instances. The parameters,
+/// which none of that needs, stand behind it.
 pub struct Instance<M> {
     pub kind: M,
     pub table: LentTable,

@@ -69,8 +69,8 @@ pub(crate) fn perform<O, S: Step<O>>(
     }
 }
 
-/// Performs the step with the records of an idle instance that last, as [`perform`] does: its own pieces, and those of its write-once records,
-/// which may be written where `writable` says so.
+/// Performs the step with the records of an idle instance that last, as [`perform`] does: its own pieces, and those of its write-once
+/// records, which may be written where `writable` says so.
 #[inline(always)]
 pub(crate) fn perform_at_rest<O, S: Step<O>>(
     step: &S,

@@ -51,7 +51,8 @@ pub(crate) struct Process<'a, M> {
 impl<M: Ialg> Step<Block> for Process<'_, M> {
     ghost can = { λ s o. (o.items ≡ []) × (1 ≤ length s.input.now) × (length s.input.now ≤ BLOCK_SAMPLES) };
 
-    ghost done = { λ s rs writable old new o n. StaysOnce rs writable old new × HasRun M.law s.kind s.input.now rs writable old new n.items × (length n.items ≤ length s.input.now) };
+    ghost done = { λ s rs writable old new o n. StaysOnce rs writable old new × HasRun M.law s.kind s.input.now rs writable old new n.items
+        × (length n.items ≤ length s.input.now) };
 
     #[inline(always)]
     fn perform(&self, mem: &mut Lent<'_>, out: &mut Block) {
@@ -69,7 +70,8 @@ pub(crate) struct ActivateAndProcess<'a, M> {
 impl<M: Ialg> Step<Block> for ActivateAndProcess<'_, M> {
     ghost can = { λ s o. (o.items ≡ []) × (1 ≤ length s.input.now) × (length s.input.now ≤ BLOCK_SAMPLES) };
 
-    ghost done = { λ s rs writable old new o n. StaysOnce rs writable old new × ActivatedAndRan M.law s.kind s.input.now rs writable old new n.items × (length n.items ≤ length s.input.now) };
+    ghost done = { λ s rs writable old new o n. StaysOnce rs writable old new × ActivatedAndRan M.law s.kind s.input.now rs writable old new n.items
+        × (length n.items ≤ length s.input.now) };
 
     #[inline(always)]
     fn perform(&self, mem: &mut Lent<'_>, out: &mut Block) {
@@ -87,7 +89,8 @@ pub(crate) struct Command<'a, M> {
 impl<M: Ialg> Step<Status> for Command<'_, M> {
     ghost can = { λ s o. Unit {0} };
 
-    ghost done = { λ s rs writable old new o n. StaysOnce rs writable old new × Controlled M.law s.kind (control_of s.control.now) rs writable old new (answer_of n) };
+    ghost done = { λ s rs writable old new o n. StaysOnce rs writable old new
+        × Controlled M.law s.kind (control_of s.control.now) rs writable old new (answer_of n) };
 
     fn perform(&self, mem: &mut Lent<'_>, out: &mut Status) {
         *out = self.kind.alg_control(mem, self.control);

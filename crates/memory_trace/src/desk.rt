@@ -125,7 +125,7 @@ impl Desk {
         self.both(None, None)
     }
 
-    // The same with the place of the block in each body.
+    /// The same with the place of the block in each body.
     fn both(&self, heap: Option<u32>, vector: Option<u32>) -> Both {
         Both {
             heap: Seen {

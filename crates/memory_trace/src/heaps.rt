@@ -1,11 +1,12 @@
-//! Steps of a heap. Each prints the block's place, the free words and the words that were moved; at most 64 blocks are held at one time. The line
-//! ends in `differs` where the heap's earlier body shows other numbers.
+//! Steps of a heap. Each prints the block's place, the free words and the words that were moved; at most 64 blocks are held at one time.
+//! The line ends in `differs` where the heap's earlier body shows other numbers.
 
 use crate::desk::{Both, Desk};
 use crate::step::Step;
 use std::alloc::Global;
 use std::{io, mem};
 
+/// Prints what the heap gave, and whether the vector of holes gives the same.
 fn print(rt: &impl Print, seen: Option<Both>) -> io::Result<()> {
     let Some(Both { heap, vector }) = seen else {
         return println!(rt; "no heap");
@@ -17,7 +18,7 @@ fn print(rt: &impl Print, seen: Option<Both>) -> io::Result<()> {
     }
 }
 
-// The step over an open heap.
+/// The step over an open heap.
 fn act(desk: &mut Desk, step: Step) -> Both {
     match step {
         Step::New(_words) => desk.seen(),
@@ -27,6 +28,7 @@ fn act(desk: &mut Desk, step: Step) -> Both {
     }
 }
 
+/// Closes the heaps, if they are open.
 pub fn close(desk: Option<Desk>) {
     match desk {
         Some(desk) => desk.close(),

@@ -1,6 +1,6 @@
 // SPDX-License-Identifier: Apache-2.0
-//! A test program: a trace over heaps of several sizes. Each line that is read is a step, and for each it prints what the heap shows then. The
-//! stored answers are those of a model that was written apart from this code, in another language.
+//! A test program: a trace over heaps of several sizes. Each line that is read is a step, and for each it prints what the heap shows then.
+//! The stored answers are those of a model that was written apart from this code, in another language.
 #![tactic(auto)]
 
 mod desk;

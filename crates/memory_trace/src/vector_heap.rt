@@ -12,21 +12,23 @@ struct Hole {
 }
 
 impl Hole {
+    /// The place behind its last word.
     fn end(self) -> u32 {
         self.place.saturating_add(self.len)
     }
 
-    // The least multiple of `align` at which the words fit.
+    /// The least multiple of `align` at which the words fit.
     fn fit(self, words: u32, align: u32) -> Option<u32> {
         let place = self.place.checked_next_multiple_of(align)?;
         (place.checked_add(words)? <= self.end()).then_some(place)
     }
 
+    /// Whether one begins where the other ends.
     fn touches(self, other: Hole) -> bool {
         self.end() == other.place || other.end() == self.place
     }
 
-    // One hole of this one and one that touches it.
+    /// One hole of this one and one that touches it.
     fn joined(self, other: Option<Hole>) -> Hole {
         match other {
             Some(other) => Hole {
@@ -114,7 +116,7 @@ impl VectorHeap {
         self.slid
     }
 
-    // Holes are looked at in place order, up to the first in which the words fit.
+    /// Holes are looked at in place order, up to the first in which the words fit.
     fn find(&self, words: u32, align: u32) -> Option<Fit> {
         self.holes.iter().enumerate().find_map(|(hole, free)| {
             let place = free.fit(words, align)?;
@@ -122,7 +124,7 @@ impl VectorHeap {
         })
     }
 
-    // How many holes begin before the place.
+    /// How many holes begin before the place.
     fn position(&self, place: u32) -> usize {
         self.holes
             .iter()
@@ -130,7 +132,7 @@ impl VectorHeap {
             .count()
     }
 
-    // Where a block can be lowered to, in the hole that ends at its place.
+    /// Where a block can be lowered to, in the hole that ends at its place.
     fn gap_before(&self, place: u32, align: u32) -> Option<Fit> {
         let hole = self.position(place).checked_sub(1)?;
         let gap = *self.holes.get(hole)?;
@@ -138,14 +140,14 @@ impl VectorHeap {
         (gap.end() == place && to < place).then_some(Fit { hole, place: to })
     }
 
-    // The hole is put in at `i`, if it has words. There is room, so no memory is asked for.
+    /// The hole is put in at `i`, if it has words. There is room, so no memory is asked for.
     fn put(&mut self, i: usize, hole: Hole) {
         if hole.len > 0 && i <= self.holes.len() {
             let _ = self.holes.insert(i, hole);
         }
     }
 
-    // The words are taken out of the i-th hole.
+    /// The words are taken out of the i-th hole.
     fn carve(&mut self, i: usize, place: u32, words: u32) {
         if i >= self.holes.len() {
             return;
@@ -164,7 +166,7 @@ impl VectorHeap {
         self.put(i, before);
     }
 
-    // The i-th hole is taken out where it touches the piece.
+    /// The i-th hole is taken out where it touches the piece.
     fn take_touching(&mut self, i: usize, piece: Hole) -> Option<Hole> {
         if i < self.holes.len() && self.holes[i].touches(piece) {
             Some(self.holes.remove(i))
@@ -173,7 +175,7 @@ impl VectorHeap {
         }
     }
 
-    // The piece is a hole from now on, together with the holes that it touches.
+    /// The piece is a hole from now on, together with the holes that it touches.
     fn put_back(&mut self, piece: Hole) {
         let i = self.position(piece.place);
         let behind = self.take_touching(i, piece);

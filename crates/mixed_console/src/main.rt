@@ -1,8 +1,8 @@
 // SPDX-License-Identifier: Apache-2.0
 //! A test program: the console over the hosted kinds and four that keep no law, as one type whose values have names.
 //!
-//! The four are the rogues of `test_doubles`. A host, its channels and a whole run are to serve the hosted kinds beside them as if they were
-//! alone.
+//! The four are the rogues of `test_doubles`. A host, its channels and a whole run are to serve the hosted kinds beside them as if they
+//! were alone.
 #![tactic(auto)]
 
 use dsp_program::{About, program};

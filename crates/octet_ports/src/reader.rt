@@ -8,8 +8,8 @@ ghost use Rattle.octet_ports.specs.Readers.{BeginsWith, LineTaken, OctetCame, En
 
 use crate::LINE_FEED;
 use crate::port::PortIn;
+use arrayvec::ArrayVec;
 use memchr::memchr;
-use octet_buffer::Buffer;
 use std::marker::Model;
 
 /// How a line was read.
@@ -77,7 +77,7 @@ impl LineReader {
     pub fn read_line<S: PortIn, const MOST: usize>(
         &mut self,
         script: &mut S,
-        text: &mut Buffer<MOST>,
+        text: &mut ArrayVec<u8, MOST>,
     ) -> Result<ReadLine, LineFault>
         requires ready { (S.source script.old).failed ≡ false }
         requires empty { text.old.items ≡ [] }
@@ -100,7 +100,7 @@ impl LineReader {
     }
 
     /// Takes the line whose line feed is ahead, if it is ahead and the text has room for the line: most lines are read so.
-    fn take_line<const MOST: usize>(&mut self, text: &mut Buffer<MOST>) -> bool
+    fn take_line<const MOST: usize>(&mut self, text: &mut ArrayVec<u8, MOST>) -> bool
         requires empty { text.old.items ≡ [] }
         ensures taken { result ≡ true → LineTaken MOST text.new.items self.old self.new }
         ensures nothing { result ≡ false → (self.new ≡ self.old) × (text.new ≡ text.old) }
@@ -111,10 +111,9 @@ impl LineReader {
             return false;
         };
         let count = line.len() + 1;
-        if line.len() > MOST {
+        if text.try_extend_from_slice(line).is_err() {
             return false;
         }
-        text.take_all(line);
         self.at += count;
         self.left -= count as u32;
         true
@@ -124,7 +123,7 @@ impl LineReader {
     fn read_octets_of_line<S: PortIn, const MOST: usize>(
         &mut self,
         script: &mut S,
-        text: &mut Buffer<MOST>,
+        text: &mut ArrayVec<u8, MOST>,
     ) -> Result<ReadLine, LineFault>
         requires ready { (S.source script.old).failed ≡ false }
         requires empty { text.old.items ≡ [] }

@@ -41,7 +41,8 @@ impl PortIn for TapeIn<'_> {
     fn get(&mut self, buffer: &mut [u8]) -> Result<usize, PortFault>
         requires { self.old.failed ≡ false }
         ensures count { IfOk result (λ n. n ≤ length buffer.old) }
-        ensures octets { IfOk result (λ n. Gives (take n buffer.new) (source_of (Some self.old.rest.now) self.old.failed) (source_of (Some self.new.rest.now) self.new.failed)) }
+        ensures octets { IfOk result (λ n. Gives (take n buffer.new) (source_of (Some self.old.rest.now) self.old.failed)
+            (source_of (Some self.new.rest.now) self.new.failed)) }
         ensures end { IfOk result (λ n. n ≡ 0 → 0 < length buffer.old → IsAtEnd (source_of (Some self.new.rest.now) self.new.failed)) }
         ensures fault { IfErr result (λ _. Gives [] (source_of (Some self.old.rest.now) self.old.failed) (source_of (Some self.new.rest.now) self.new.failed)) }
         ensures failed { self.new.failed ≡ is_err result }

@@ -4,7 +4,7 @@ ghost use Rattle.std.specs.Io.KnownBytes.{Appends};
 ghost use Rattle.octet_ports.specs.Passing.{EachDoes, HasNothing, HasRoom, HoldsStill, PassesFirst, PassesOn, TakesAll};
 
 use crate::PortFault;
-use octet_buffer::Buffer;
+use arrayvec::ArrayVec;
 use std::io::Write;
 
 /// The most octets that wait for an output, or for the replies.
@@ -17,7 +17,7 @@ const _: () = prove!(JOURNAL_OCTETS == 8 * 1024);
 #[derive(Drop)]
 pub(crate) struct Waiting<W> {
     writer: W,
-    octets: Buffer<JOURNAL_OCTETS>,
+    octets: ArrayVec<u8, JOURNAL_OCTETS>,
     /// How many octets of what waited the device surely has, since it was last passed on.
     taken: usize,
 }
@@ -46,7 +46,7 @@ impl<W: Write> Waiting<W> {
     {
         Waiting {
             writer,
-            octets: Buffer::new(),
+            octets: ArrayVec::new(),
             taken: 0,
         }
     }
@@ -79,7 +79,9 @@ impl<W: Write> Waiting<W> {
         ensures octets { self.new.octets.items ≡ self.old.octets.items ++ take result octets.now }
         ensures writer { self.new.writer ≡ self.old.writer }
     {
-        self.octets.take_some(octets)
+        let count = octets.len().min(self.octets.remaining_capacity());
+        let _fits = self.octets.try_extend_from_slice(&octets[..count]);
+        count
     }
 
     /// Passes on the first `count` octets of what waits, and keeps waiting what waited. After a fault the device may have some

@@ -42,6 +42,7 @@ impl<F: OpenFile + Write> OutFile<'_, F> {
         Ok(())
     }
 
+    /// Writes to a file that is made anew by its first write.
     fn write_anew(&mut self, buf: &[u8]) -> io::Result<usize>
         ensures { WritesAtMost result buf.now }
     {
@@ -49,6 +50,7 @@ impl<F: OpenFile + Write> OutFile<'_, F> {
         self.file.write(buf)
     }
 
+    /// Flushes such a file, which is there afterwards even if nothing was written.
     fn flush_anew(&mut self) -> io::Result<()> {
         self.make_anew()?;
         self.file.flush()

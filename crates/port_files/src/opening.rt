@@ -45,6 +45,7 @@ impl Pipe {
         })
     }
 
+    /// Whether both are one pipe.
     fn is(self, other: Pipe) -> bool {
         self.device == other.device && self.inode == other.inode
     }
@@ -92,6 +93,7 @@ impl<'t, 'p, R: Files + AllocGlobal> RunFiles<'t, 'p, R> {
         self.troubles
     }
 
+    /// Notes the troubles of a port in this role.
     fn watch(&self, role: Role) -> Watch<'t> {
         Watch {
             role,

@@ -223,8 +223,8 @@ impl Group {
         );
     }
 
-    /// Performs the step with the records of a filter, as [`lend`](Group::lend) does, out of its own pieces and the block in `daram`. No other
-    /// block is looked at, and no plan made.
+    /// Performs the step with the records of a filter, as [`lend`](Group::lend) does, out of its own pieces and the block in `daram`. No
+    /// other block is looked at, and no plan made.
     #[inline(always)]
     pub fn lend_filtering<O, S: Step<O>>(
         &mut self,
@@ -250,8 +250,8 @@ impl Group {
         lend_filter(&loan, sizes, own, &mut self.daram, out);
     }
 
-    /// Performs the step with the records of a reader, as [`lend`](Group::lend) does, out of the one piece that may be lent to it. No block is
-    /// looked at, and no plan made.
+    /// Performs the step with the records of a reader, as [`lend`](Group::lend) does, out of the one piece that may be lent to it. No block
+    /// is looked at, and no plan made.
     #[inline(always)]
     pub fn lend_reading<O, S: Step<O>>(
         &self,
@@ -265,7 +265,8 @@ impl Group {
         requires can { S.can step.now out.old }
         requires reader { IsReader table.now sizes }
         requires sizes { HasWords table.now own.old (only_second once.old) self.now }
-        ensures done { DoneActive (S.done step.now) table.now false own.old (only_second once.old) self.now own.new (only_second once.new) self.now out.old out.new }
+        ensures done { DoneActive (S.done step.now) table.now false own.old (only_second once.old) self.now own.new (only_second once.new) self.now
+            out.old out.new }
         ensures own { SamePieces own.old own.new }
         ensures once { IsSamePiece once.old once.new }
     {
@@ -278,8 +279,8 @@ impl Group {
         lend_reader(&loan, sizes, own, once, out);
     }
 
-    /// Performs the step with the records of a filter that shares its constants, as [`lend`](Group::lend) does, out of its own pieces, the one
-    /// that is lent to it and the block in `daram`. No other block is looked at, and no plan made.
+    /// Performs the step with the records of a filter that shares its constants, as [`lend`](Group::lend) does, out of its own pieces, the
+    /// one that is lent to it and the block in `daram`. No other block is looked at, and no plan made.
     #[inline(always)]
     pub fn lend_sharing<O, S: Step<O>>(
         &mut self,
@@ -293,7 +294,8 @@ impl Group {
         requires can { S.can step.now out.old }
         requires sharing { IsSharingFilter table.now sizes }
         requires sizes { HasWords table.now own.old (only_third once.old) self.old }
-        ensures done { DoneActive (S.done step.now) table.now false own.old (only_third once.old) self.old own.new (only_third once.new) self.new out.old out.new }
+        ensures done { DoneActive (S.done step.now) table.now false own.old (only_third once.old) self.old own.new (only_third once.new) self.new
+            out.old out.new }
         ensures own { SamePieces own.old own.new }
         ensures once { IsSamePiece once.old once.new }
         ensures group { SameGroup self.old self.new }

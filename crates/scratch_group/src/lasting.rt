@@ -125,8 +125,8 @@ fn lend_filter_at_rest<O, S: Step<O>>(
     }
 }
 
-/// Performs the step with the records of an idle filter that shares its constants, out of its own first two pieces and the third one that is
-/// lent to it: no other piece is looked at, and no plan made.
+/// Performs the step with the records of an idle filter that shares its constants, out of its own first two pieces and the third one that
+/// is lent to it: no other piece is looked at, and no plan made.
 #[inline(always)]
 fn lend_sharing_filter_at_rest<O, S: Step<O>>(
     loan: &Lending<'_, S>,

@@ -197,8 +197,8 @@ fn filter_sizes(table: &MemTab) -> Option<FilterSizes>
     })
 }
 
-/// The sizes of a reader's records, where the table is one of a reader: the object, and behind it one write-once record or nothing. None for every
-/// other table.
+/// The sizes of a reader's records, where the table is one of a reader: the object, and behind it one write-once record or nothing. None
+/// for every other table.
 fn reader_sizes(table: &MemTab) -> Option<ReaderSizes>
     ensures sizes { MatchOption result (IsOfNoReader table.now) (IsOfReader table.now) }
     ensures table { IsTrue (is_table table.now) }

@@ -14,8 +14,8 @@ use record_loans::Pieces;
 use space_raw::Piece;
 use std::marker::Model;
 
-/// The table of an instance, and how its records are lent. Both stay as they are for the instance's life, but for the bases. A contract sees
-/// the list of the records.
+/// The table of an instance, and how its records are lent. Both stay as they are for the instance's life, but for the bases. A contract
+/// sees the list of the records.
 #[derive(Drop)]
 pub struct LentTable {
     table: MemTab,
@@ -69,8 +69,8 @@ impl LentTable {
         rebase(&mut self.table, own, shared, group);
     }
 
-    /// The base of each record is its place from now on, as [`rebase`](LentTable::rebase) has it, of a filter: the one scratch record begins
-    /// where the block in `daram` does, and no piece is shared.
+    /// The base of each record is its place from now on, as [`rebase`](LentTable::rebase) has it, of a filter: the one scratch record
+    /// begins where the block in `daram` does, and no piece is shared.
     #[inline(always)]
     pub fn rebase_filter(&mut self, own: &Pieces, group: &Group)
         requires filter { IsFilter self.old (filter_sizes_in self.old) }
@@ -81,8 +81,8 @@ impl LentTable {
         rebase_filter(&mut self.table, own, group);
     }
 
-    /// The base of each record is its place from now on, as [`rebase`](LentTable::rebase) has it, of a filter that shares its constants: these
-    /// begin where the one piece does that is lent.
+    /// The base of each record is its place from now on, as [`rebase`](LentTable::rebase) has it, of a filter that shares its constants:
+    /// these begin where the one piece does that is lent.
     #[inline(always)]
     pub fn rebase_sharing(&mut self, own: &Pieces, once: &Option<Piece>, group: &Group)
         requires sharing { IsSharingFilter self.old (sharing_sizes_in self.old) }

@@ -108,6 +108,7 @@ impl<'a> Reason<'a> {
         }
     }
 
+    /// Writes why a line with this verb was refused.
     fn write_of_verb<W: fmt::Write>(
         &self,
         verb: Verb,

@@ -17,8 +17,8 @@ use voice_script::{
     Ask, BLOCK_OCTETS, FeedSamples, LINE_OCTETS, LineMachine, Reply, ReplyText, line_of,
 };
 
-/// Room for the words of a line, for a map and for words that are told of, and the buffers of replies and feeds. To make them clears thousands of
-/// octets, so a run has one of each.
+/// Room for the words of a line, for a map and for words that are told of, and the buffers of replies and feeds. To make them clears
+/// thousands of octets, so a run has one of each.
 #[derive(Drop)]
 pub(crate) struct Desk {
     pub(crate) parameters: Params,
@@ -109,12 +109,15 @@ fn serve_feed<T: LineMachine, I: PortIn, O: PortOut, P: PortOut>(
     ensures read { IsErrOf result PortsFault.Read → AnyFailedIn I.source inputs.new }
     ensures write { IsErrOf result PortsFault.Write → OneFailed O.sink P.sink outputs.new replies.new }
     ensures waits { NothingPassed O.sink P.sink outputs.old outputs.new replies.old replies.new }
-    ensures served { OverLine I.source O.sink P.sink (FeedIsServed T.machine (T.widths machine.old) (T.refines machine.old) (T.refines machine.new) channel samples.number result)
+    ensures served { OverLine I.source O.sink P.sink (FeedIsServed T.machine (T.widths machine.old) (T.refines machine.old) (T.refines machine.new)
+        channel samples.number result)
         inputs.old inputs.new outputs.old outputs.new replies.old replies.new }
     ensures cut { OverLine I.source O.sink P.sink (FeedIsCut T.machine (T.widths machine.old) (T.refines machine.old) channel samples.number result)
         inputs.old inputs.new outputs.old outputs.new replies.old replies.new }
-    ensures unread { IsErrOf result PortsFault.Read → InputSteps I.source (FailsWithin (octet_count ((T.widths machine.old).input channel) samples.number)) channel inputs.old inputs.new }
-    ensures unfed { IsErrOf result PortsFault.Read → OverLine I.source O.sink P.sink NothingWritten inputs.old inputs.new outputs.old outputs.new replies.old replies.new }
+    ensures unread { IsErrOf result PortsFault.Read
+        → InputSteps I.source (FailsWithin (octet_count ((T.widths machine.old).input channel) samples.number)) channel inputs.old inputs.new }
+    ensures unfed { IsErrOf result PortsFault.Read
+        → OverLine I.source O.sink P.sink NothingWritten inputs.old inputs.new outputs.old outputs.new replies.old replies.new }
 {
     let c = usize::from(channel);
     let octets = machine
@@ -163,7 +166,8 @@ pub(crate) fn serve_line<T: LineMachine, I: PortIn, O: PortOut, P: PortOut>(
     ensures read { IsErrOf result PortsFault.Read → AnyFailedIn I.source inputs.new }
     ensures write { IsErrOf result PortsFault.Write → OneFailed O.sink P.sink outputs.new replies.new }
     ensures waits { NothingPassed O.sink P.sink outputs.old outputs.new replies.old replies.new }
-    ensures served { OverLine I.source O.sink P.sink (LineIsServed T.machine (T.widths machine.old) (T.refines machine.old) (T.refines machine.new) line.now long result)
+    ensures served { OverLine I.source O.sink P.sink (LineIsServed T.machine (T.widths machine.old) (T.refines machine.old) (T.refines machine.new)
+        line.now long result)
         inputs.old inputs.new outputs.old outputs.new replies.old replies.new }
     ensures cut { OverLine I.source O.sink P.sink (LineIsCut T.machine (T.widths machine.old) (T.refines machine.old) line.now long result)
         inputs.old inputs.new outputs.old outputs.new replies.old replies.new }

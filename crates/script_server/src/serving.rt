@@ -6,9 +6,9 @@ ghost use Rattle.script_server.specs.Runs.{AllIsServed, IsStoppedByRead, IsStopp
 
 use crate::limits::SCRIPT_OCTETS;
 use crate::line::{Buffers, Desk, flush_outputs, serve_line};
+use arrayvec::ArrayVec;
 use host_map::Map;
 use ialg::{Params, Words};
-use octet_buffer::Buffer;
 use octet_ports::{LineReader, PortIn, PortOut};
 use voice_script::{BLOCK_OCTETS, LINE_OCTETS, LineMachine, ReplyText};
 
@@ -44,7 +44,7 @@ fn serve_script<T: LineMachine, S: PortIn, I: PortIn, O: PortOut, P: PortOut>(
 {
     let mut reader = LineReader::new(SCRIPT_OCTETS);
     let mut refused: u64 = 0;
-    let mut text: Buffer<LINE_OCTETS> = Buffer::new();
+    let mut text: ArrayVec<u8, LINE_OCTETS> = ArrayVec::new();
     let mut desk = Desk {
         parameters: Params::new(),
         map: Map::new(),
@@ -88,7 +88,8 @@ fn serve_script<T: LineMachine, S: PortIn, I: PortIn, O: PortOut, P: PortOut>(
 /// reply; it is refused as short at the input's end, and what was read of it is gone. Every other line writes its reply
 /// alone. A fault ends the run.
 ///
-/// The script is read ahead, by [`BUFFER_OCTETS`](octet_ports::BUFFER_OCTETS) at most, but only where no whole line is left of what was read.
+/// The script is read ahead, by [`BUFFER_OCTETS`](octet_ports::BUFFER_OCTETS) at most, but only where no whole line is left of what was
+/// read.
 pub fn serve<T: LineMachine, S: PortIn, I: PortIn, O: PortOut, P: PortOut>(
     machine: &mut T,
     script: &mut S,

@@ -21,7 +21,7 @@ pub(crate) struct Fit {
     pub(crate) place: u32,
 }
 
-// The least place for `words` words. Holes are looked at up to the first in which they fit.
+/// The least place for `words` words. Holes are looked at up to the first in which they fit.
 pub(crate) fn find(rest: &Rest, first: Option<u32>, words: u32, align: u32) -> Option<Fit>
     requires holes { HasHoles rest.now.slots first }
     requires words { (0 < words) × (words ≤ GREATEST_NEED) }
@@ -45,7 +45,7 @@ pub(crate) fn find(rest: &Rest, first: Option<u32>, words: u32, align: u32) -> O
     None
 }
 
-// The last hole that begins before the place.
+/// The last hole that begins before the place.
 #[inline(always)]
 pub(crate) fn last_before(rest: &Rest, first: Option<u32>, place: u32) -> Option<Found>
     requires holes { HasHoles rest.now.slots first }

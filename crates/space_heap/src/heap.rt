@@ -65,7 +65,7 @@ impl<A: Allocator> Heap<A> {
         }
     }
 
-    // The heap of a region of which no piece is away. It asks for no memory.
+    /// The heap of a region of which no piece is away. It asks for no memory.
     fn over(region: Region<A>, rest: Rest, size: u32) -> Heap<A>
         requires whole { (rest.region ≡ region) × (region.size ≡ size) × IsSpaceSize size }
         requires free { rest.slots ≡ map Some (replicate size (pos 0)) }

@@ -16,7 +16,7 @@ pub(crate) struct Hole {
     pub(crate) next: Option<u32>,
 }
 
-// A length or a place as a word, in units of the least alignment: at most 16,384 of them.
+/// A length or a place as a word, in units of the least alignment: at most 16,384 of them.
 fn word_of(words: u32) -> i16
     requires { words < 2 ^ 15 * LEAST_ALIGNMENT }
     ensures { result ≡ pos (words / LEAST_ALIGNMENT) }
@@ -24,14 +24,14 @@ fn word_of(words: u32) -> i16
     (words / LEAST_ALIGNMENT) as i16
 }
 
-// The length or the place that the word stands for.
+/// The length or the place that the word stands for.
 fn words_of(word: i16) -> u32
     ensures { (n : ℕ) → word ≡ pos n → result ≡ n * LEAST_ALIGNMENT }
 {
     u32::from(word.cast_unsigned()) * LEAST_ALIGNMENT
 }
 
-// The place of a next hole as a word.
+/// The place of a next hole as a word.
 pub(crate) fn link_of(next: Option<u32>) -> i16
     requires { IsLink next }
     ensures { result ≡ link next }
@@ -42,7 +42,7 @@ pub(crate) fn link_of(next: Option<u32>) -> i16
     }
 }
 
-// The place that the word stands for.
+/// The place that the word stands for.
 fn place_of(word: i16) -> Option<u32>
     ensures { (next : Option ℕ) → IsLink next → word ≡ link next → result ≡ next }
 {
@@ -57,6 +57,7 @@ impl Hole {
     ghost use Rattle.space_raw.specs.Slots.{IsRun};
     ghost use Rattle.space_heap.specs.Holes.{IsHole, IsWritten, Rewrites, hole_end};
 
+    /// The place behind its last word.
     pub(crate) fn end(&self) -> u32
         requires { hole_end self.now < 2 ^ 32 }
         ensures { result ≡ hole_end self.now }
@@ -64,7 +65,7 @@ impl Hole {
         self.place + self.len
     }
 
-    // The hole that stands at the place.
+    /// The hole that stands at the place.
     pub(crate) fn read(rest: &Rest, place: u32) -> Hole
         requires written { (h : Hole) × (h.place ≡ place) × IsHole h × IsWritten rest.now.slots h }
         ensures hole { (h : Hole) → h.place ≡ place → IsHole h → IsWritten rest.now.slots h → result ≡ h }
@@ -77,7 +78,7 @@ impl Hole {
         }
     }
 
-    // The hole stands in its first two words from now on.
+    /// The hole stands in its first two words from now on.
     pub(crate) fn write(self, rest: &mut Rest)
         requires hole { IsHole self }
         requires there { IsRun rest.old.slots self.place 2 }

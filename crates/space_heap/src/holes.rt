@@ -10,7 +10,7 @@ use crate::hole::{Hole, link_of};
 use mem_rec::LEAST_ALIGNMENT;
 use space_raw::{Piece, Rest};
 
-// The words from `from` up to `to` are left as a hole before `next`, if there are some. The place of the first hole from there on.
+/// The words from `from` up to `to` are left as a hole before `next`, if there are some. The place of the first hole from there on.
 pub(crate) fn leave_hole(rest: &mut Rest, from: u32, to: u32, next: Option<u32>) -> Option<u32>
     requires order { (from ≤ to) × (to ≤ length rest.old.slots) × IsSpaceSize (length rest.old.slots) }
     requires units { (from % LEAST_ALIGNMENT ≡ 0) × (to % LEAST_ALIGNMENT ≡ 0) }
@@ -32,7 +32,7 @@ pub(crate) fn leave_hole(rest: &mut Rest, from: u32, to: u32, next: Option<u32>)
     Some(from)
 }
 
-// The hole at `before` leads to `next` from now on. Without it, `next` is the first of all.
+/// The hole at `before` leads to `next` from now on. Without it, `next` is the first of all.
 fn relink(rest: &mut Rest, first: &mut Option<u32>, before: Option<u32>, next: Option<u32>)
     requires there { IfSome before (λ p. IsRun rest.old.slots p 2) }
     requires next { IsLink next }
@@ -49,7 +49,7 @@ fn relink(rest: &mut Rest, first: &mut Option<u32>, before: Option<u32>, next: O
     }
 }
 
-// The words are taken out of the hole that they are in.
+/// The words are taken out of the hole that they are in.
 #[inline(always)]
 pub(crate) fn carve(rest: &mut Rest, first: &mut Option<u32>, fit: Fit, words: u32) -> Piece
     requires fit { IsFit rest.old.slots first.old words fit }
@@ -76,7 +76,7 @@ pub(crate) struct Front {
 }
 
 impl Front {
-    // What stands before a place, once the words from the fit's place to its hole's end are a block that ends there.
+    /// What stands before a place, once the words from the fit's place to its hole's end are a block that ends there.
     pub(crate) fn behind(fit: Fit, place: u32) -> Front
         ensures { result ≡ front_of_fit fit place }
     {
@@ -94,6 +94,7 @@ impl Front {
     }
 }
 
+/// What stands before a place: the hole that ends there joins the free words, or the last hole before them leads to them.
 fn join_front(rest: &Rest, first: Option<u32>, place: u32) -> Front
     requires holes { HasHoles rest.now.slots first }
     requires block { IsTakenPlace rest.now.slots place }
@@ -130,6 +131,7 @@ pub(crate) struct Back {
     pub(crate) behind: Option<u32>,
 }
 
+/// What stands behind free words that end here: a hole that begins there joins them.
 fn join_back(rest: &Rest, end: u32, next: Option<u32>) -> Back
     requires next { ((right : List Range) × LeadsTo rest.now.slots next right) × IsFromOn end next }
     requires end { (end % LEAST_ALIGNMENT ≡ 0) × (end ≤ length rest.now.slots) }
@@ -149,7 +151,7 @@ fn join_back(rest: &Rest, end: u32, next: Option<u32>) -> Back
     }
 }
 
-// The piece's words are free from now on. With the holes that they touch they are one hole.
+/// The piece's words are free from now on. With the holes that they touch they are one hole.
 pub(crate) fn put_back(rest: &mut Rest, first: &mut Option<u32>, piece: Piece)
     requires holes { HasHoles rest.old.slots first.old }
     requires region { piece.region ≡ rest.old.region }
@@ -164,7 +166,7 @@ pub(crate) fn put_back(rest: &mut Rest, first: &mut Option<u32>, piece: Piece)
     put_behind(rest, first, front, piece);
 }
 
-// The same, where it is known what stands before the piece.
+/// The same, where it is known what stands before the piece.
 #[inline(always)]
 pub(crate) fn put_behind(rest: &mut Rest, first: &mut Option<u32>, front: Front, piece: Piece)
     requires region { piece.region ≡ rest.old.region }
@@ -182,7 +184,7 @@ pub(crate) fn put_behind(rest: &mut Rest, first: &mut Option<u32>, front: Front,
     relink(rest, first, before, start);
 }
 
-// Where a piece can be lowered to: the least multiple of `align` in the hole that ends at its place.
+/// Where a piece can be lowered to: the least multiple of `align` in the hole that ends at its place.
 #[tactic(auto, using(crate::proofs::Words::away_within))]
 pub(crate) fn gap_before(
     rest: &mut Rest,

@@ -32,13 +32,14 @@ impl<A: Allocator> Model for Deed<A> {
 }
 
 impl<A: Allocator> Deed<A> {
-    // The words of the block, none of which is written.
+    /// The words of the block, none of which is written.
     pub(crate) fn allocate(
         alloc: &A,
         len: usize,
     ) -> Result<(Base, Words, Blank, Deed<A>), AllocError>
         requires size { len < word_limit }
-        ensures granted { IfOk result (λ r. (r.1.base ≡ r.0.ptr) × (r.1.place ≡ 0) × (r.1.items ≡ []) × (r.2.base ≡ r.0.ptr) × (r.2.place ≡ 0) × (r.2.len ≡ len) × (r.3.base ≡ r.0.ptr) × (r.3.len ≡ len) × (r.3.alloc ≡ alloc.now)) }
+        ensures granted { IfOk result (λ r. (r.1.base ≡ r.0.ptr) × (r.1.place ≡ 0) × (r.1.items ≡ []) × (r.2.base ≡ r.0.ptr) × (r.2.place ≡ 0)
+            × (r.2.len ≡ len) × (r.3.base ≡ r.0.ptr) × (r.3.len ≡ len) × (r.3.alloc ≡ alloc.now)) }
     {
         match alloc.allocate(len * 2, 2) {
             Ok(block) => {
@@ -52,7 +53,7 @@ impl<A: Allocator> Deed<A> {
         }
     }
 
-    // The words that were written, and behind them those that never were.
+    /// The words that were written, and behind them those that never were.
     pub(crate) fn deallocate(self, alloc: &A, base: Base, len: usize, words: Words, blank: Blank)
         requires block { (self.base ≡ base.ptr) × (self.len ≡ len) × (self.alloc ≡ alloc.now) × (len < word_limit) }
         requires words { (words.base ≡ base.ptr) × (words.place ≡ 0) }
@@ -68,14 +69,14 @@ impl<A: Allocator> Deed<A> {
 impl Blank {
     ghost use Rattle.space_raw.specs.Owners.{OwnsWords};
 
-    // It stands for an owner that was moved out of its place.
+    /// It stands for an owner that was moved out of its place.
     pub(crate) fn nowhere() -> Blank
         ensures none { result.len ≡ 0 }
     {
         Blank {}
     }
 
-    // The first word is written, and joins the words before it.
+    /// The first word is written, and joins the words before it.
     pub(crate) fn write_first(
         self,
         base: Base,

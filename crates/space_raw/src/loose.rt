@@ -26,14 +26,14 @@ impl Loose {
     ghost use Rattle.space_raw.specs.LooseLends.{lends_run};
     ghost use Rattle.space_raw.specs.Owners.{OwnsWords, RunCanBeRead};
 
-    // It stands for an owner that was moved out of its place.
+    /// It stands for an owner that was moved out of its place.
     pub(crate) fn nowhere() -> Loose
         ensures none { result.slots ≡ [] }
     {
         Loose {}
     }
 
-    // The words from the region's first on. So many behind them are away.
+    /// The words from the region's first on. So many behind them are away.
     pub(crate) fn of(words: Words, away: usize) -> Loose
         requires start { words.place ≡ 0 }
         ensures words { (result.base ≡ words.base) × (result.slots ≡ map Some words.items ++ replicate away None) }
@@ -42,6 +42,7 @@ impl Loose {
         Loose {}
     }
 
+    /// The `len` words from the place on, none of which is away.
     pub(crate) fn run(&self, base: Base, place: usize, len: usize) -> &[i16]
         requires there { RunCanBeRead self.now base.ptr place len }
         ensures value { result.now ≡ run_of self.now.slots place len }
@@ -49,6 +50,7 @@ impl Loose {
         unsafe { slice::from_raw_parts(base.ptr.add(place), len) }
     }
 
+    /// The same, for writing.
     pub(crate) fn run_mut(&mut self, base: Base, place: usize, len: usize) -> &mut [i16]
         requires there { RunCanBeRead self.old base.ptr place len }
         ensures* writes_back { sem 𝓛 (lends_run self.entry place len result) }
@@ -57,6 +59,7 @@ impl Loose {
         unsafe { slice::from_raw_parts_mut(base.ptr.add(place), len) }
     }
 
+    /// Takes out the `len` words from the place on, none of which is away.
     pub(crate) fn carve(self, place: usize, len: usize) -> (Words, Loose)
         requires there { IsRun self.slots place len }
         ensures words { OwnsWords result.0 self.base place (run_of self.slots place len) }
@@ -66,6 +69,7 @@ impl Loose {
         (Words {}, Loose {})
     }
 
+    /// Puts words back where they were taken out.
     pub(crate) fn absorb(self, words: Words) -> Loose
         requires inside { (words.base ≡ self.base) × (words.place + length words.items ≤ length self.slots) }
         ensures words { (result.base ≡ self.base) × (result.slots ≡ with_run self.slots words.place words.items) }

@@ -27,9 +27,15 @@ impl Model for Piece {
 
     ghost Value = { Span };
 
-    ghost view = { λ p. record { region = record { base = p.base.ptr; name = p.places.name; size = length p.places.marks }; place = p.place; words = p.words.items } };
+    ghost view = { λ p. record {
+      region = record { base = p.base.ptr; name = p.places.name; size = length p.places.marks };
+      place = p.place;
+      words = p.words.items;
+    } };
 
-    ghost invariant = { λ p. (p.base.ptr ≡ p.words.base) × (p.place ≡ p.words.place) × (p.len ≡ length p.words.items) × (p.places.marks ≡ range_marks (length p.places.marks) p.place p.len) × (p.place + p.len ≤ length p.places.marks) × (length p.places.marks < word_limit) };
+    ghost invariant = { λ p. (p.base.ptr ≡ p.words.base) × (p.place ≡ p.words.place) × (p.len ≡ length p.words.items)
+        × (p.places.marks ≡ range_marks (length p.places.marks) p.place p.len) × (p.place + p.len ≤ length p.places.marks)
+        × (length p.places.marks < word_limit) };
 }
 
 impl Piece {
@@ -155,7 +161,7 @@ impl Piece {
     }
 }
 
-// The `count` words from `gap` on are copied to the start, upwards.
+/// The `count` words from `gap` on are copied to the start, upwards.
 fn copy_down(words: &mut [i16], gap: usize, count: usize)
     requires inside { gap + count ≤ length words.old }
     ensures moved { words.new ≡ take count (drop gap words.old) ++ drop count words.old }
@@ -167,8 +173,8 @@ fn copy_down(words: &mut [i16], gap: usize, count: usize)
     }
 }
 
-/// Ends what isn't there: a piece can't be dropped, nor can a value that holds pieces. It answers nothing and leaves nothing behind, so that there is
-/// no more to say.
+/// Ends what isn't there: a piece can't be dropped, nor can a value that holds pieces. It answers nothing and leaves nothing behind, so
+/// that there is no more to say.
 pub fn end_none<T>(absent: Option<T>)
     requires { absent ≡ None }
 {

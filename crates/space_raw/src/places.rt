@@ -18,14 +18,14 @@ impl Model for Places {
 impl Places {
     ghost use Rattle.space_raw.specs.Owners.{OwnsPlaces};
 
-    // All places of a new region. With size 0 it stands for an owner that was moved out of its field.
+    /// All places of a new region. With size 0 it stands for an owner that was moved out of its field.
     pub(crate) fn make(size: usize) -> Places
         ensures marks { result.marks ≡ replicate size true }
     {
         Places {}
     }
 
-    // Those from a place on, and the others.
+    /// Those from a place on, and the others.
     pub(crate) fn part(self, place: usize, len: usize) -> (Places, Places)
         ensures inner { OwnsPlaces result.0 self (within place len self.marks) }
         ensures outer { OwnsPlaces result.1 self (outside place len self.marks) }
@@ -34,6 +34,7 @@ impl Places {
         (Places {}, Places {})
     }
 
+    /// The places of both.
     pub(crate) fn unite(self, other: Places) -> Places
         requires region { (other.name ≡ self.name) × (length other.marks ≡ length self.marks) }
         ensures both { OwnsPlaces result self (union self.marks other.marks) }
@@ -43,7 +44,7 @@ impl Places {
         Places {}
     }
 
-    // Both come back as they were: it only shows that they share no place.
+    /// Both come back as they were: it only shows that they share no place.
     pub(crate) fn apart(self, other: Places) -> (Places, Places)
         requires region { other.name ≡ self.name }
         ensures same { (result.0 ≡ self) × (result.1 ≡ other) }

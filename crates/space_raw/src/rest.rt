@@ -32,7 +32,8 @@ impl Model for Rest {
 
     ghost view = { λ r. record { region = record { base = r.base.ptr; name = r.places.name; size = r.size }; slots = slots_of r.store } };
 
-    ghost invariant = { λ r. (r.base.ptr ≡ r.store.loose.base) × (r.size ≡ length (slots_of r.store)) × (r.size < word_limit) × (r.places.marks ≡ map is_some (slots_of r.store)) × IsStore r.store };
+    ghost invariant = { λ r. (r.base.ptr ≡ r.store.loose.base) × (r.size ≡ length (slots_of r.store)) × (r.size < word_limit)
+        × (r.places.marks ≡ map is_some (slots_of r.store)) × IsStore r.store };
 }
 
 impl Rest {
@@ -57,7 +58,7 @@ impl Rest {
         }
     }
 
-    // All words of a region, of which none was written.
+    /// All words of a region, of which none was written.
     pub(crate) fn of_blank(base: Base, none: Words, blank: Blank, len: u32, places: Places) -> Rest
         requires none { OwnsWords none base.ptr 0 [] }
         requires blank { OwnsRoom blank base.ptr 0 len }
@@ -73,7 +74,7 @@ impl Rest {
         }
     }
 
-    // The words that were written, and the room of those that never were.
+    /// The words that were written, and the room of those that never were.
     pub(crate) fn end(self) -> (Base, u32, Words, Blank)
         requires there { IsRun self.slots 0 (length self.slots) }
         ensures region { (result.0.ptr ≡ self.region.base) × (result.1 ≡ self.region.size) }

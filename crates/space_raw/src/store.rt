@@ -19,7 +19,7 @@ pub(crate) struct Store {
 }
 
 impl Store {
-    // All words of a region, which were written.
+    /// All words of a region, which were written.
     pub(crate) fn of(words: Words, len: u32) -> Store
         requires whole { (words.place ≡ 0) × (length words.items ≡ len) }
         ensures store { IsStoreAt result words.base }
@@ -33,7 +33,7 @@ impl Store {
         }
     }
 
-    // All words of a region, of which none was written.
+    /// All words of a region, of which none was written.
     pub(crate) fn of_blank(none: Words, blank: Blank, len: u32) -> Store
         requires none { (none.place ≡ 0) × (none.items ≡ []) }
         requires blank { OwnsRoom blank none.base 0 len }
@@ -47,7 +47,7 @@ impl Store {
         }
     }
 
-    // The words before `end` are written, if they aren't yet.
+    /// The words before `end` are written, if they aren't yet.
     #[inline]
     fn reach(&mut self, base: Base, end: u32)
         requires store { IsStore self.old × (base.ptr ≡ self.old.loose.base) }
@@ -61,7 +61,7 @@ impl Store {
         }
     }
 
-    // Zeros are written from the mark up to `end`.
+    /// Zeros are written from the mark up to `end`.
     #[inline(never)]
     fn clear(&mut self, base: Base, end: u32)
         requires store { IsStore self.old × (base.ptr ≡ self.old.loose.base) }
@@ -81,7 +81,7 @@ impl Store {
         self.written = end;
     }
 
-    // `len` words from the place on leave.
+    /// `len` words from the place on leave.
     pub(crate) fn carve(&mut self, base: Base, place: u32, len: u32) -> Words
         requires store { IsStore self.old × (base.ptr ≡ self.old.loose.base) }
         requires there { IsRun (slots_of self.old) place len }
@@ -96,7 +96,7 @@ impl Store {
         words
     }
 
-    // Words come back, which end at this place.
+    /// Words come back, which end at this place.
     pub(crate) fn absorb(&mut self, base: Base, words: Words, end: u32)
         requires store { IsStore self.old × (base.ptr ≡ self.old.loose.base) }
         requires inside { (words.base ≡ self.old.loose.base) × (end ≡ words.place + length words.items) × (end ≤ length (slots_of self.old)) }
@@ -108,7 +108,7 @@ impl Store {
         self.loose = loose.absorb(words);
     }
 
-    // The words at the place and at the next one.
+    /// The words at the place and at the next one.
     pub(crate) fn pair(&self, base: Base, place: u32) -> (i16, i16)
         requires store { IsStore self.now × (base.ptr ≡ self.now.loose.base) }
         requires there { IsRun (slots_of self.now) place 2 }
@@ -120,7 +120,7 @@ impl Store {
         written_pair(&self.loose, base, place)
     }
 
-    // The word at the place, whether it was written or not.
+    /// The word at the place, whether it was written or not.
     fn word(&self, base: Base, place: u32) -> i16
         requires store { IsStore self.now × (base.ptr ≡ self.now.loose.base) }
         requires there { IsRun (slots_of self.now) place 1 }
@@ -133,7 +133,7 @@ impl Store {
         }
     }
 
-    // Those two words are written, and no others.
+    /// Those two words are written, and no others.
     pub(crate) fn set_pair(&mut self, base: Base, place: u32, pair: (i16, i16))
         requires store { IsStore self.old × (base.ptr ≡ self.old.loose.base) }
         requires there { IsRun (slots_of self.old) place 2 }
@@ -144,7 +144,7 @@ impl Store {
         write_pair(&mut self.loose, base, place, pair);
     }
 
-    // What was written, and the room of what never was.
+    /// What was written, and the room of what never was.
     pub(crate) fn end(self) -> (Words, Blank)
         requires store { IsStore self }
         requires there { IsRun (slots_of self) 0 (length (slots_of self)) }
@@ -161,7 +161,7 @@ impl Store {
     }
 }
 
-// Zeros are written to the first `count` words of the blank room.
+/// Zeros are written to the first `count` words of the blank room.
 fn zeros(base: Base, from: u32, count: u32, none: Words, blank: Blank) -> (Words, Blank)
     requires none { OwnsWords none base.ptr from [] }
     requires blank { (blank.base ≡ base.ptr) × (blank.place ≡ from) × (count ≤ blank.len) }
@@ -181,6 +181,7 @@ fn zeros(base: Base, from: u32, count: u32, none: Words, blank: Blank) -> (Words
     (zeros, blank)
 }
 
+/// The words at the place and at the next one, which were written.
 fn written_pair(loose: &Loose, base: Base, place: u32) -> (i16, i16)
     requires base { base.ptr ≡ loose.now.base }
     requires there { IsRun loose.now.slots place 2 × (place + 2 < word_limit) }
@@ -190,6 +191,7 @@ fn written_pair(loose: &Loose, base: Base, place: u32) -> (i16, i16)
     (words[0], words[1])
 }
 
+/// The word at the place, which was written.
 fn written_word(loose: &Loose, base: Base, place: u32) -> i16
     requires base { base.ptr ≡ loose.now.base }
     requires there { IsRun loose.now.slots place 1 × (place + 1 < word_limit) }
@@ -198,6 +200,7 @@ fn written_word(loose: &Loose, base: Base, place: u32) -> i16
     loose.run(base, place as usize, 1)[0]
 }
 
+/// Writes the words at the place and at the next one.
 fn write_pair(loose: &mut Loose, base: Base, place: u32, pair: (i16, i16))
     requires base { base.ptr ≡ loose.old.base }
     requires there { IsRun loose.old.slots place 2 × (place + 2 < word_limit) }

@@ -43,6 +43,7 @@ impl Words {
     ghost use Rattle.space_raw.specs.Lends.{lends_items};
     ghost use Rattle.space_raw.specs.Owners.{CanBeRead, OwnsRoom, OwnsWords};
 
+    /// The words, for reading.
     pub(crate) fn slice(&self, base: Base, place: usize, len: usize) -> &[i16]
         requires range { CanBeRead self.now base.ptr place len }
         ensures value { result.now ≡ self.now.items }
@@ -50,6 +51,7 @@ impl Words {
         unsafe { slice::from_raw_parts(base.ptr.add(place), len) }
     }
 
+    /// The words, for writing.
     pub(crate) fn slice_mut(&mut self, base: Base, place: usize, len: usize) -> &mut [i16]
         requires range { CanBeRead self.old base.ptr place len }
         ensures* writes_back { sem 𝓛 (lends_items self.entry result) }
@@ -58,6 +60,7 @@ impl Words {
         unsafe { slice::from_raw_parts_mut(base.ptr.add(place), len) }
     }
 
+    /// The first n words, and those behind them.
     pub(crate) fn split(self, n: usize) -> (Words, Words)
         requires fewer { n ≤ length self.items }
         ensures left { OwnsWords result.0 self.base self.place (take n self.items) }
@@ -67,6 +70,7 @@ impl Words {
         (Words {}, Words {})
     }
 
+    /// These words and those right behind them, as one.
     pub(crate) fn join(self, next: Words) -> Words
         requires adjoins { (next.base ≡ self.base) × (next.place ≡ self.place + length self.items) }
         ensures words { OwnsWords result self.base self.place (self.items ++ next.items) }
@@ -76,7 +80,7 @@ impl Words {
         Words {}
     }
 
-    // The words, and the room of no words behind them.
+    /// The words, and the room of no words behind them.
     pub(crate) fn end(self) -> (Words, Blank)
         ensures words { result.0 ≡ self }
         ensures blank { OwnsRoom result.1 self.base (self.place + length self.items) 0 }

@@ -57,6 +57,7 @@ const TOO_MUCH_TWIST: [i16; 102] = [
     -3219, -1674, 560, 2485, 3313, 2887, 1655, 270, -848, -1645, -2224, -2529,
 ];
 
+/// Asserts the rows of a digit detector.
 fn assert_digits(rt: &impl Abort, rows: &[Row<'_>]) {
     assert_rows(rt, Dtmf, BASES, rows);
 }

@@ -99,7 +99,7 @@ fn one_more_sample_changes_two_words_of_the_ring(rt: HostRuntime) {
     assert!(rt; [1, 2].contains(&changes_by(&[-7])));
 }
 
-// The second block goes around the ring's end, so that past samples and block don't stand there in a row.
+/// The second block goes around the ring's end, so that past samples and block don't stand there in a row.
 #[test]
 fn a_block_around_the_rings_end_shifts_no_past_sample(rt: HostRuntime) {
     assert!(rt; [600, 601].contains(&changes_by(&[-7; 600])));

@@ -8,6 +8,7 @@ use std::process::Abort;
 /// The bases of the object, the kept words and the running words.
 const BASES: [u16; TABLE_RECORDS] = [0, 4, 8, 0];
 
+/// Asserts the rows of an amplifier.
 fn assert_gains(rt: &impl Abort, rows: &[Row<'_>]) {
     assert_rows(rt, Gain::new(), BASES, rows);
 }

@@ -8,6 +8,7 @@ use std::process::Abort;
 /// The bases of the object, the kept words and the running words.
 const BASES: [u16; TABLE_RECORDS] = [0, 4, 12, 0];
 
+/// Asserts the rows of a level meter.
 fn assert_levels(rt: &impl Abort, rows: &[Row<'_>]) {
     assert_rows(rt, Level::new(), BASES, rows);
 }

@@ -31,7 +31,7 @@ struct Asked {
     returned: u64,
 }
 
-// The request of that number is refused.
+/// The request of that number is refused.
 fn ask(alloc: Global, sizes: Sizes, refused: u64) -> Asked {
     let metered = Metered::refusing(alloc, refused);
     let answer = match run_memory::<Voice, _>(&metered, sizes) {
@@ -82,7 +82,7 @@ struct Served {
     refused: u64,
 }
 
-// A run, of which the clause on lawful kinds and honest ports is all that its caller needs.
+/// A run, of which the clause on lawful kinds and honest ports is all that its caller needs.
 fn run_lawfully<S: PortIn, I: PortIn, O: PortOut, P: PortOut>(
     alloc: Global,
     config: Config,
@@ -102,10 +102,12 @@ fn run_lawfully<S: PortIn, I: PortIn, O: PortOut, P: PortOut>(
     run::<Voice, S, I, O, P>(alloc, config, script, inputs, outputs, replies)
 }
 
-// Devices over memory: from the contracts alone the vectors hold what is served for the octets.
+/// Devices over memory: from the contracts alone the vectors hold what is served for the octets.
 fn serve_octets(alloc: Global, script: &[u8], input: &[u8]) -> Result<Served, Fault>
-    ensures output { IfOk result (λ run. run.output.items ≡ held_by (Some 0) (order_of (served voice_meaning voice_named (widths_of 0 0) FULL script.now (input.now ∷ [])).written)) }
-    ensures replies { IfOk result (λ run. run.replies.items ≡ held_by None (order_of (served voice_meaning voice_named (widths_of 0 0) FULL script.now (input.now ∷ [])).written)) }
+    ensures output { IfOk result (λ run. run.output.items
+        ≡ held_by (Some 0) (order_of (served voice_meaning voice_named (widths_of 0 0) FULL script.now (input.now ∷ [])).written)) }
+    ensures replies { IfOk result (λ run. run.replies.items
+        ≡ held_by None (order_of (served voice_meaning voice_named (widths_of 0 0) FULL script.now (input.now ∷ [])).written)) }
     ensures refused { IfOk result (λ run. refusals (served voice_meaning voice_named (widths_of 0 0) FULL script.now (input.now ∷ [])).written ≡ run.refused) }
 {
     voices_are_lawful();

@@ -61,6 +61,7 @@ impl<'a> Held<'a> {
         }
     }
 
+    /// Whether nothing was written.
     fn is_empty(self) -> bool {
         self.first.is_empty() && self.second.is_empty() && self.replies.is_empty()
     }
@@ -114,6 +115,7 @@ struct Ran {
 }
 
 impl Ran {
+    /// What a run wrote.
     fn held(&self) -> Held<'_> {
         Held {
             first: self.first.held(),
@@ -214,12 +216,13 @@ fn a_slide_over_ports_that_break(rt: HostRuntime) -> Result<(), Fail> {
     every_call_breaks(&rt, &A_SLIDE)
 }
 
+/// How many lines the bytes have.
 fn line_feeds(octets: &[u8]) -> usize {
     octets.iter().filter(|octet| **octet == b'\n').count()
 }
 
-// Each call gives one octet, and the one behind them tells the end: a line is answered where its end came before the call that fails, and
-// only there.
+/// Each call gives one octet, and the one behind them tells the end: a line is answered where its end came before the call that fails, and
+/// only there.
 #[test]
 fn what_came_before_a_failed_read_is_answered(rt: HostRuntime) -> Result<(), Fail> {
     let script = BY_TURNS.script;
@@ -236,7 +239,7 @@ fn what_came_before_a_failed_read_is_answered(rt: HostRuntime) -> Result<(), Fai
     Ok(())
 }
 
-// One call gives all of it, a second one tells that it has ended, and there is no third.
+/// One call gives all of it, a second one tells that it has ended, and there is no third.
 #[test]
 fn a_short_script_takes_two_calls(rt: HostRuntime) -> Result<(), Fail> {
     let third = Broken {

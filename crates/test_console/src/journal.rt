@@ -128,7 +128,7 @@ fn a_full_output_leaves_no_reply_of_lost_samples(rt: HostRuntime) -> Result<(), 
     Ok(())
 }
 
-// The output takes what is written, and then fails to flush.
+/// The output takes what is written, and then fails to flush.
 #[test]
 fn a_failed_flush_leaves_no_reply(rt: HostRuntime) -> Result<(), Fail> {
     let page = RefCell::new(Vec::new(rt.alloc()));

@@ -1,6 +1,6 @@
 //! Lines that come in whatever pieces, up to the limit, over two buffers and past one.
 use crate::ports::NEVER;
-use octet_buffer::Buffer;
+use arrayvec::ArrayVec;
 use octet_ports::{BUFFER_OCTETS, LINE_FEED, LineFault, LineReader, PortIn, ReadLine, TapeIn};
 use std::process::Abort;
 
@@ -45,7 +45,7 @@ fn come(script: Script<'_>, lines: &[Line]) -> bool {
     }
     let mut tape = TapeIn::new(script.octets, script.step, script.fuse);
     let mut reader = LineReader::new(script.most);
-    let mut text: Buffer<4> = Buffer::new();
+    let mut text: ArrayVec<u8, 4> = ArrayVec::new();
     for line in lines {
         if tape.failed() {
             return false;
@@ -78,7 +78,7 @@ fn lines_come_in_whatever_pieces(rt: HostRuntime) {
     }
 }
 
-// One octet more than may come is asked for, and tells that there are more.
+/// One octet more than may come is asked for, and tells that there are more.
 #[test]
 fn lines_within_the_limit_come_first(rt: HostRuntime) {
     let lines = [
@@ -99,7 +99,7 @@ fn lines_within_the_limit_come_first(rt: HostRuntime) {
     }
 }
 
-// The second call of the tape fails: it is made only once the lines of the first have come.
+/// The second call of the tape fails: it is made only once the lines of the first have come.
 #[test]
 fn lines_that_are_ahead_come_before_the_script_is_asked(rt: HostRuntime) {
     let script = Script {

@@ -1,7 +1,8 @@
 -- What is said of an algorithm type that keeps no law: no words refine a history of it, and its write-once records hold nothing.
 use Rattle.std.specs.Prelude.{ℤ, List, []}
 use Rattle.mem_rec.specs.declared.MemRec.{MemRec}
-use Rattle.ialg.specs.History.{History, IsWordHistory}
+use Rattle.ialg.specs.History.{IsWordHistory}
+use Rattle.ialg.specs.Log.{Log}
 use Rattle.ialg.specs.Laws.{Laws}
 use Rattle.ialg.specs.Meaning.{Meaning}
 use Rattle.ialg.specs.Records.{HoldFill}
@@ -11,13 +12,13 @@ lawless meaning = record {
   meaning = meaning;
   bound = λ _. 0;
   fill = λ _ p k. [];
-  idle_refines = λ _ p rs wss h. ⊥;
-  active_refines = λ _ p rs wss h. ⊥;
+  idle_refines = λ _ p rs wss l. ⊥;
+  active_refines = λ _ p rs wss l. ⊥;
 }
 
 -- what IALG asks of the words that refine a history
-pub is_word_history : {K : Type 0} (kind : K) (p : List ℤ) (rs : List MemRec) (wss : List (List ℤ)) (h : History) → ⊥ → IsWordHistory h
-is_word_history kind p rs wss h keeps = absurd keeps
+pub is_word_history : {K : Type 0} (kind : K) (p : List ℤ) (rs : List MemRec) (wss : List (List ℤ)) (l : Log) → ⊥ → IsWordHistory l.history
+is_word_history kind p rs wss l keeps = absurd keeps
 
-pub holds_fill : {K : Type 0} (kind : K) (p : List ℤ) (rs : List MemRec) (wss : List (List ℤ)) (h : History) → ⊥ → HoldFill (λ k. []) rs wss
-holds_fill kind p rs wss h keeps = absurd keeps
+pub holds_fill : {K : Type 0} (kind : K) (p : List ℤ) (rs : List MemRec) (wss : List (List ℤ)) (l : Log) → ⊥ → HoldFill (λ k. []) rs wss
+holds_fill kind p rs wss l keeps = absurd keeps

@@ -1,7 +1,8 @@
 -- The hosted kinds and the scribbler as one kind: each means what it means in its set.
 use Rattle.std.specs.Prelude.{ℤ, List, []}
 use Rattle.mem_rec.specs.declared.MemRec.{MemRec}
-use Rattle.ialg.specs.History.{History, IsWordHistory}
+use Rattle.ialg.specs.History.{IsWordHistory}
+use Rattle.ialg.specs.Log.{Log}
 use Rattle.ialg.specs.Laws.{Laws}
 use Rattle.ialg.specs.Records.{HoldFill}
 use Rattle.voice_set.specs.declared.voice.Voice.{Voice}
@@ -31,22 +32,22 @@ trial_laws laws = record {
 }
 
 -- what IALG asks of the words that refine a history: those of a scribbler refine none
-pub idle_words : (kind : Or Voice Scribbler) (p : List ℤ) (rs : List MemRec) (wss : List (List ℤ)) (h : History)
-    → either_refines voices.IsIdle (λ _ p rs wss h. ⊥) kind p rs wss h → IsWordHistory h
-idle_words (First voice) p rs wss h keeps = kept.idle_words voice p rs wss h keeps
-idle_words (Second scribbler) p rs wss h keeps = absurd keeps
+pub idle_words : (kind : Or Voice Scribbler) (p : List ℤ) (rs : List MemRec) (wss : List (List ℤ)) (l : Log)
+    → either_refines voices.IsIdle (λ _ p rs wss l. ⊥) kind p rs wss l → IsWordHistory l.history
+idle_words (First voice) p rs wss l keeps = kept.idle_words voice p rs wss l keeps
+idle_words (Second scribbler) p rs wss l keeps = absurd keeps
 
-pub active_words : (kind : Or Voice Scribbler) (p : List ℤ) (rs : List MemRec) (wss : List (List ℤ)) (h : History)
-    → either_refines voices.IsActive (λ _ p rs wss h. ⊥) kind p rs wss h → IsWordHistory h
-active_words (First voice) p rs wss h keeps = kept.active_words voice p rs wss h keeps
-active_words (Second scribbler) p rs wss h keeps = absurd keeps
+pub active_words : (kind : Or Voice Scribbler) (p : List ℤ) (rs : List MemRec) (wss : List (List ℤ)) (l : Log)
+    → either_refines voices.IsActive (λ _ p rs wss l. ⊥) kind p rs wss l → IsWordHistory l.history
+active_words (First voice) p rs wss l keeps = kept.active_words voice p rs wss l keeps
+active_words (Second scribbler) p rs wss l keeps = absurd keeps
 
-pub idle_fill : (kind : Or Voice Scribbler) (p : List ℤ) (rs : List MemRec) (wss : List (List ℤ)) (h : History)
-    → either_refines voices.IsIdle (λ _ p rs wss h. ⊥) kind p rs wss h → HoldFill (told voices.voice_fill (λ _ p k. []) kind p) rs wss
-idle_fill (First voice) p rs wss h keeps = kept.idle_fill voice p rs wss h keeps
-idle_fill (Second scribbler) p rs wss h keeps = absurd keeps
+pub idle_fill : (kind : Or Voice Scribbler) (p : List ℤ) (rs : List MemRec) (wss : List (List ℤ)) (l : Log)
+    → either_refines voices.IsIdle (λ _ p rs wss l. ⊥) kind p rs wss l → HoldFill (told voices.voice_fill (λ _ p k. []) kind p) rs wss
+idle_fill (First voice) p rs wss l keeps = kept.idle_fill voice p rs wss l keeps
+idle_fill (Second scribbler) p rs wss l keeps = absurd keeps
 
-pub active_fill : (kind : Or Voice Scribbler) (p : List ℤ) (rs : List MemRec) (wss : List (List ℤ)) (h : History)
-    → either_refines voices.IsActive (λ _ p rs wss h. ⊥) kind p rs wss h → HoldFill (told voices.voice_fill (λ _ p k. []) kind p) rs wss
-active_fill (First voice) p rs wss h keeps = kept.active_fill voice p rs wss h keeps
-active_fill (Second scribbler) p rs wss h keeps = absurd keeps
+pub active_fill : (kind : Or Voice Scribbler) (p : List ℤ) (rs : List MemRec) (wss : List (List ℤ)) (l : Log)
+    → either_refines voices.IsActive (λ _ p rs wss l. ⊥) kind p rs wss l → HoldFill (told voices.voice_fill (λ _ p k. []) kind p) rs wss
+active_fill (First voice) p rs wss l keeps = kept.active_fill voice p rs wss l keeps
+active_fill (Second scribbler) p rs wss l keeps = absurd keeps

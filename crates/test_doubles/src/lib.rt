@@ -6,9 +6,9 @@
 //! met by words that there are. [`give_sample`] gives it a sample by the law of one entry.
 //! [`Slicer`] has scratch records of two alignments in two spaces.
 //!
-//! The other kinds keep no law. [`Scribbler`] asks for the memory that its parameters say, and writes over all that it may. A [`Rogue`] is one of four: one
-//! writes over all that it may, one reads what others left in its scratch words, one goes by forged bases, and one gives as many samples as it
-//! likes. [`Trial`] and [`Mixed`] are the sets of the hosted kinds and these.
+//! The other kinds keep no law. [`Scribbler`] asks for the memory that its parameters say, and writes over all that it may. A [`Rogue`] is
+//! one of four: one writes over all that it may, one reads what others left in its scratch words, one goes by forged bases, and one gives
+//! as many samples as it likes. [`Trial`] and [`Mixed`] are the sets of the hosted kinds and these.
 #![tactic(auto)]
 
 mod babbling;

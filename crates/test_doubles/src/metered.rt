@@ -15,6 +15,7 @@ struct Meter {
 }
 
 impl Meter {
+    /// A meter that refuses the request of this number, if there is one.
     fn new(refused: Option<u64>) -> Meter {
         Meter {
             refused,
@@ -23,14 +24,14 @@ impl Meter {
         }
     }
 
-    // Counts a request, and says whether it is to be refused.
+    /// Counts a request, and says whether it is to be refused.
     fn refuses(&self) -> bool {
         let number = self.requests.get();
         self.requests.set(number.wrapping_add(1));
         self.refused == Some(number)
     }
 
-    // Counts a block that comes back.
+    /// Counts a block that comes back.
     fn takes_back(&self) {
         self.returned.set(self.returned.get().wrapping_add(1));
     }

@@ -29,8 +29,8 @@ impl Ialg for Primed {
       meaning = primed_meaning;
       bound = λ _. PRIMED_RECORDS;
       fill = λ _. primed_fill;
-      idle_refines = λ _ p rs wss h. KeepsWords p rs wss h;
-      active_refines = λ _ p rs wss h. KeepsActive p rs wss h;
+      idle_refines = λ _ p rs wss l. KeepsWords p rs wss l.history;
+      active_refines = λ _ p rs wss l. KeepsActive p rs wss l.history;
     } };
 
     fn alg_num_alloc(&self) -> usize {
@@ -83,13 +83,13 @@ impl Ialg for Primed {
 
     ghost compared = { λ a b i. true };
 
-    ghost idle_words = { λ _ p rs wss h keeps. keeps.history };
+    ghost idle_words = { λ _ p rs wss l keeps. keeps.history };
 
-    ghost active_words = { λ _ p rs wss h keeps. keeps.idle.history };
+    ghost active_words = { λ _ p rs wss l keeps. keeps.idle.history };
 
-    ghost idle_fill = { λ _ p rs wss h keeps. keeps.once };
+    ghost idle_fill = { λ _ p rs wss l keeps. keeps.once };
 
-    ghost active_fill = { λ _ p rs wss h keeps. keeps.idle.once };
+    ghost active_fill = { λ _ p rs wss l keeps. keeps.idle.once };
 }
 
 /// The records: the object, one that is written once, one that is never written, and a scratch record.

@@ -80,7 +80,7 @@ impl Ialg for Scribbler {
     ghost active_fill = { holds_fill };
 }
 
-// A scratch record of so many words in a space, at a multiple of the alignment.
+/// A scratch record of so many words in a space, at a multiple of the alignment.
 fn scratch_record(asked: &[i16]) -> Option<MemRec> {
     let [space, words, align] = asked else {
         return None;
@@ -99,7 +99,7 @@ fn scratch_record(asked: &[i16]) -> Option<MemRec> {
     })
 }
 
-// The object, and a scratch record for each three parameters.
+/// The object, and a scratch record for each three parameters.
 fn scribbled_table(p: &[i16]) -> Option<MemTab> {
     let mut records: ArrayVec<MemRec, TABLE_RECORDS> = ArrayVec::new();
     records.push(object_record());

@@ -40,8 +40,8 @@ impl Ialg for Slicer {
       meaning = slicer_meaning;
       bound = λ _. SLICER_RECORDS;
       fill = λ _. slicer_fill;
-      idle_refines = λ _ p rs wss h. HoldsLevels p rs wss h;
-      active_refines = λ _ p rs wss h. SpreadsLevels p rs wss h;
+      idle_refines = λ _ p rs wss l. HoldsLevels p rs wss l.history;
+      active_refines = λ _ p rs wss l. SpreadsLevels p rs wss l.history;
     } };
 
     fn alg_num_alloc(&self) -> usize {
@@ -100,13 +100,13 @@ impl Ialg for Slicer {
         mem.table().copied()
     }
 
-    ghost idle_words = { λ _ p rs wss h keeps. keeps.history };
+    ghost idle_words = { λ _ p rs wss l keeps. keeps.history };
 
-    ghost active_words = { λ _ p rs wss h keeps. keeps.levels.history };
+    ghost active_words = { λ _ p rs wss l keeps. keeps.levels.history };
 
-    ghost idle_fill = { λ _ p rs wss h keeps. keeps.once };
+    ghost idle_fill = { λ _ p rs wss l keeps. keeps.once };
 
-    ghost active_fill = { λ _ p rs wss h keeps. keeps.levels.once };
+    ghost active_fill = { λ _ p rs wss l keeps. keeps.levels.once };
 }
 
 /// The records: the object, the levels, which are written once, and a scratch record for each level.

@@ -9,7 +9,8 @@ use kind_parts::Or;
 use mem_rec::MemTab;
 use voice_set::Voice;
 
-/// A hosted kind or a scribbler. Each call is that of the kind. It is a struct and not an alias, so that the tests of hosts are checked over one type.
+/// A hosted kind or a scribbler. Each call is that of the kind. It is a struct and not an alias, so that the tests of hosts are checked
+/// over one type.
 #[derive(Clone, Copy, PartialEq, Eq, Debug)]
 pub struct Trial {
     pub kind: Or<Voice, Scribbler>,

@@ -13,6 +13,7 @@ const FIR: Trial = Trial {
     kind: Or::First(Voice::Fir),
 };
 
+/// A host of these sizes.
 fn sizes(daram: u32, saram: u32, external: u32) -> Sizes {
     Sizes {
         daram,
@@ -21,6 +22,7 @@ fn sizes(daram: u32, saram: u32, external: u32) -> Sizes {
     }
 }
 
+/// A creation.
 fn create(rt: &impl Abort, instance: u8, kind: Trial, group: u8, p: &[i16]) -> Request<Trial> {
     assert!(rt; p.len() <= PARAMETER_WORDS);
     Request::Create {
@@ -32,6 +34,7 @@ fn create(rt: &impl Abort, instance: u8, kind: Trial, group: u8, p: &[i16]) -> R
     }
 }
 
+/// A control.
 fn control(instance: u8, control: Ctl) -> Request<Trial> {
     Request::Control {
         instance,
@@ -40,6 +43,7 @@ fn control(instance: u8, control: Ctl) -> Request<Trial> {
     }
 }
 
+/// A block of samples.
 fn process(rt: &impl Abort, instance: u8, samples: &[i16]) -> Request<Trial> {
     assert!(rt; samples.len() <= BLOCK_SAMPLES);
     let mut input = Block::new();
@@ -51,7 +55,7 @@ fn process(rt: &impl Abort, instance: u8, samples: &[i16]) -> Request<Trial> {
     }
 }
 
-// What the instance gave for the request was this.
+/// What the instance gave for the request was this.
 fn gave(request: &Request<Trial>, samples: &[i16]) -> bool {
     match request {
         Request::Process {
@@ -62,7 +66,7 @@ fn gave(request: &Request<Trial>, samples: &[i16]) -> bool {
     }
 }
 
-// What it answered to a control.
+/// What it answered to a control.
 fn answered(request: &Request<Trial>) -> Option<&Result<Status, Refusal>> {
     match request {
         Request::Control { answer, .. } => Some(answer),
@@ -70,7 +74,7 @@ fn answered(request: &Request<Trial>) -> Option<&Result<Status, Refusal>> {
     }
 }
 
-// The life of a filter that is alone in its host.
+/// The life of a filter that is alone in its host.
 fn alone(rt: &impl Abort) -> [Request<Trial>; 5] {
     [
         create(rt, 0, FIR, 0, &[16_384, 16_384]),
@@ -81,7 +85,7 @@ fn alone(rt: &impl Abort) -> [Request<Trial>; 5] {
     ]
 }
 
-// The life of such a filter beside a kind that keeps no law.
+/// The life of such a filter beside a kind that keeps no law.
 fn beside_a_scribbler(rt: &impl Abort) -> [Request<Trial>; 12] {
     [
         create(rt, 7, SCRIBBLER, 3, &[0, 1_028, 16]),
@@ -108,14 +112,14 @@ fn beside_a_scribbler(rt: &impl Abort) -> [Request<Trial>; 12] {
     ]
 }
 
-// Looks at what the filters of the two lives gave.
+/// Looks at what the filters of the two lives gave.
 fn look_at_outputs(rt: &impl Abort, one: &[Request<Trial>; 5], other: &[Request<Trial>; 12]) {
     assert!(rt; gave(&one[1], &[1, 3, 5]) && gave(&one[4], &[4, 9]));
     assert!(rt; gave(&other[2], &[1]) && gave(&other[4], &[3, 5]));
     assert!(rt; gave(&other[9], &[4]) && gave(&other[11], &[9]));
 }
 
-// Looks at what they answered to the controls.
+/// Looks at what they answered to the controls.
 fn look_at_answers(rt: &impl Abort, one: &[Request<Trial>; 5], other: &[Request<Trial>; 12]) {
     let done = Some(&Ok(Status::Done));
     assert!(rt;

@@ -46,7 +46,7 @@ impl<M: Ialg> Call<'_, M> {
     }
 }
 
-// Whether a channel can be fed, and gives this for a block of samples.
+/// Whether a channel can be fed, and gives this for a block of samples.
 fn gives<M: Ialg>(channels: &mut Channels<M>, c: u8, input: &[i16], output: &[i16]) -> bool {
     if channels.ready(c).is_err() || input.is_empty() || input.len() > BLOCK_SAMPLES {
         return false;
@@ -56,7 +56,7 @@ fn gives<M: Ialg>(channels: &mut Channels<M>, c: u8, input: &[i16], output: &[i1
     given.as_slice() == output
 }
 
-// Whether a channel can be fed, and tells this for a sample, or gives this.
+/// Whether a channel can be fed, and tells this for a sample, or gives this.
 fn gives_sample<M: Ialg>(
     channels: &mut Channels<M>,
     c: u8,

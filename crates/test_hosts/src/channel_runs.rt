@@ -23,6 +23,7 @@ const BY_TWO: [i16; 3] = [2, 16_384, 16_384];
 
 const MEAN: [i16; 2] = [16_384, 16_384];
 
+/// A host of these sizes, with external memory for all.
 fn sizes(daram: u32, saram: u32) -> Sizes {
     Sizes {
         daram,
@@ -31,7 +32,7 @@ fn sizes(daram: u32, saram: u32) -> Sizes {
     }
 }
 
-// The decimator and the filter, numbered in their order, in a channel of their own.
+/// The decimator and the filter, numbered in their order, in a channel of their own.
 fn channel_alone<R: Abort + AllocGlobal>(rt: &R) -> Channels<Trial> {
     let host = Host::new(rt.alloc(), sizes(4_096, 1_024), None).expect(rt, "memory");
     let mut channels = Channels::new(host, 1);
@@ -44,7 +45,7 @@ fn channel_alone<R: Abort + AllocGlobal>(rt: &R) -> Channels<Trial> {
     channels
 }
 
-// The same as 5 and 7 in channel 3 of a host with a poison word, beside a kind in their group that keeps no law.
+/// The same as 5 and 7 in channel 3 of a host with a poison word, beside a kind in their group that keeps no law.
 fn channel_beside_a_scribbler<R: Abort + AllocGlobal>(rt: &R) -> Channels<Trial> {
     let host = Host::new(rt.alloc(), sizes(2_048, 512), Some(-1)).expect(rt, "memory");
     let mut channels = Channels::new(host, 4);

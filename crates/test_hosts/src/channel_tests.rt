@@ -29,7 +29,7 @@ const MEAN: [i16; 2] = [16_384, 16_384];
 // A decimator by 2, of such means.
 const BY_TWO: [i16; 3] = [2, 16_384, 16_384];
 
-// So many new channels, over a host of so many words of `daram`.
+/// So many new channels, over a host of so many words of `daram`.
 fn channels(
     rt: &impl Abort,
     alloc: Global,
@@ -47,7 +47,7 @@ fn channels(
     Channels::new(host, count)
 }
 
-// An active decoder tells what a code gives, and nobody else does: not an idle one, nor an encoder, a filter, or one of two members.
+/// An active decoder tells what a code gives, and nobody else does: not an idle one, nor an encoder, a filter, or one of two members.
 #[test]
 fn an_active_decoder_tells_what_a_code_gives(rt: HostRuntime) {
     let calls = [

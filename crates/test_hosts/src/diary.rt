@@ -30,9 +30,9 @@ const DIARY: usize = 1;
 /// The diary: how many calls there were, and then the calls.
 const DIARY_WORDS: u32 = PARAMETER_WORDS as u32;
 
-/// Its parameters are the words of a scratch record in `daram`, of one in `saram`, and of a write-once record, 0 for none; there are two
-/// of these at most. Where a fourth parameter is 1 the diary is the object itself, so that there is no other record which lasts. It gives the samples that
-/// it takes, answers its diary to `get`, takes `reset`, and takes no `set`. It keeps no law.
+/// Its parameters are the words of a scratch record in `daram`, of one in `saram`, and of a write-once record, 0 for none; there are two of
+/// these at most. Where a fourth parameter is 1 the diary is the object itself, so that there is no other record which lasts. It gives the
+/// samples that it takes, answers its diary to `get`, takes `reset`, and takes no `set`. It keeps no law.
 ///
 /// So it can have the records of a filter, of a filter that shares its constants, of a reader, and others.
 #[derive(Clone, Copy, PartialEq, Eq, Debug)]
@@ -43,8 +43,8 @@ impl Ialg for Diary {
       meaning = diary_meaning;
       bound = λ _. 0;
       fill = λ _ p k. [];
-      idle_refines = λ _ p rs wss h. ⊥;
-      active_refines = λ _ p rs wss h. ⊥;
+      idle_refines = λ _ p rs wss l. ⊥;
+      active_refines = λ _ p rs wss l. ⊥;
     } };
 
     fn alg_num_alloc(&self) -> usize {
@@ -105,15 +105,16 @@ impl Ialg for Diary {
 
     ghost compared = { Prim.search (comparing, rules) };
 
-    ghost idle_words = { λ _ p rs wss h keeps. absurd keeps };
+    ghost idle_words = { λ _ p rs wss l keeps. absurd keeps };
 
-    ghost active_words = { λ _ p rs wss h keeps. absurd keeps };
+    ghost active_words = { λ _ p rs wss l keeps. absurd keeps };
 
-    ghost idle_fill = { λ _ p rs wss h keeps. absurd keeps };
+    ghost idle_fill = { λ _ p rs wss l keeps. absurd keeps };
 
-    ghost active_fill = { λ _ p rs wss h keeps. absurd keeps };
+    ghost active_fill = { λ _ p rs wss l keeps. absurd keeps };
 }
 
+/// A record of this size.
 fn record(size: u32, space: Space, attr: Attr) -> MemRec {
     MemRec {
         size,
@@ -124,7 +125,7 @@ fn record(size: u32, space: Space, attr: Attr) -> MemRec {
     }
 }
 
-// Adds the records that last: the object, and the diary beside it or in its place.
+/// Adds the records that last: the object, and the diary beside it or in its place.
 fn push_lasting(records: &mut ArrayVec<MemRec, TABLE_RECORDS>, is_object: bool) -> Option<()> {
     if is_object {
         let diary = record(DIARY_WORDS, Space::External, Attr::Persist);
@@ -136,7 +137,7 @@ fn push_lasting(records: &mut ArrayVec<MemRec, TABLE_RECORDS>, is_object: bool) 
     }
 }
 
-// The number of the diary's record.
+/// The number of the diary's record.
 fn diary_of(table: &MemTab) -> usize {
     if table.len() > 0 && table.get(0).size == DIARY_WORDS {
         0
@@ -145,7 +146,7 @@ fn diary_of(table: &MemTab) -> usize {
     }
 }
 
-// Adds a record of that many words, where they are asked for.
+/// Adds a record of that many words, where they are asked for.
 fn push_asked(
     records: &mut ArrayVec<MemRec, TABLE_RECORDS>,
     words: Option<&i16>,
@@ -161,7 +162,7 @@ fn push_asked(
     }
 }
 
-// No call was written down so far.
+/// No call was written down so far.
 fn begin(mem: &mut Lent<'_>)
     ensures { SameLoans mem.old mem.new }
 {
@@ -176,7 +177,7 @@ fn begin(mem: &mut Lent<'_>)
     }
 }
 
-// Writes a call down, where there is room for it.
+/// Writes a call down, where there is room for it.
 fn note(mem: &mut Lent<'_>, call: i16)
     ensures { SameLoans mem.old mem.new }
 {
@@ -191,6 +192,7 @@ fn note(mem: &mut Lent<'_>, call: i16)
     }
 }
 
+/// Writes a call behind those that stand in the diary, if there is room.
 fn write(words: &mut [i16], call: i16) {
     if words.is_empty() {
         return;
@@ -202,7 +204,7 @@ fn write(words: &mut [i16], call: i16) {
     }
 }
 
-// The calls that were written down, the first one first.
+/// The calls that were written down, the first one first.
 fn written(mem: &Lent<'_>) -> Words {
     let table = mem.table();
     let diary = diary_of(table);
@@ -216,6 +218,7 @@ fn written(mem: &Lent<'_>) -> Words {
     }
 }
 
+/// The calls that stand in the diary.
 fn calls(words: &[i16]) -> Words {
     if words.is_empty() {
         return Words::new();

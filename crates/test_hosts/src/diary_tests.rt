@@ -17,14 +17,15 @@ const AMPLE: Sizes = Sizes {
     external: 4_096,
 };
 
-// A diary's parameters are its words of scratch memory in `daram` and `saram`, and of write-once memory, and whether the object is the diary.
+// A diary's parameters are its words of scratch memory in `daram` and `saram`, and of write-once memory, and whether the object is the
+// diary.
 const FILTER: [i16; 3] = [8, 0, 0];
 
 const FILTER_WITH_CONSTANTS: [i16; 3] = [8, 0, 4];
 
 const READER: [i16; 4] = [0, 0, 4, 1];
 
-// Makes the calls in an ample host.
+/// Makes the calls in an ample host.
 fn diaries(rt: &impl Abort, alloc: Global, calls: &[Call<'_, Diary>]) {
     make(rt, alloc, AMPLE, None, calls);
 }
@@ -80,7 +81,7 @@ fn groups_do_not_disturb_one_another(rt: HostRuntime) {
     diaries(&rt, rt.alloc(), &calls);
 }
 
-// The active member is deactivated before its block goes, and then told of the new one; the new instance isn't told.
+/// The active member is deactivated before its block goes, and then told of the new one; the new instance isn't told.
 #[test]
 fn a_replaced_block_deactivates_and_is_told(rt: HostRuntime) {
     let calls = [
@@ -112,7 +113,7 @@ fn a_first_block_is_told_to_nobody(rt: HostRuntime) {
     diaries(&rt, rt.alloc(), &calls);
 }
 
-// A first block in one space beside a replaced one in another: each member is told once.
+/// A first block in one space beside a replaced one in another: each member is told once.
 #[test]
 fn a_first_block_beside_a_replaced_one_is_told_once(rt: HostRuntime) {
     let calls = [
@@ -146,7 +147,7 @@ fn the_owner_of_a_moved_record_alone_is_told(rt: HostRuntime) {
     diaries(&rt, rt.alloc(), &calls);
 }
 
-// A move deactivates nobody: the scratch words go with the block.
+/// A move deactivates nobody: the scratch words go with the block.
 #[test]
 fn each_member_is_told_once_of_a_moved_block(rt: HostRuntime) {
     let calls = [
@@ -164,7 +165,7 @@ fn each_member_is_told_once_of_a_moved_block(rt: HostRuntime) {
     diaries(&rt, rt.alloc(), &calls);
 }
 
-// The object of instance 0 is moved first, and then the record that it shares with instance 1.
+/// The object of instance 0 is moved first, and then the record that it shares with instance 1.
 #[test]
 fn all_that_share_a_moved_record_are_told(rt: HostRuntime) {
     let calls = [
@@ -219,7 +220,7 @@ fn a_refused_control_calls_nobody(rt: HostRuntime) {
     diaries(&rt, rt.alloc(), &calls);
 }
 
-// Two instances share the write-once record; the active one is told as the idle one is, and no other instance.
+/// Two instances share the write-once record; the active one is told as the idle one is, and no other instance.
 fn sharers_of_a_moved_record<'a>(
     rt: &impl Abort,
     alloc: Global,
@@ -252,7 +253,7 @@ fn readers_that_share_a_table_are_told_of_its_move(rt: HostRuntime) {
     sharers_of_a_moved_record(&rt, rt.alloc(), &READER, &[0, 0, 8, 1]);
 }
 
-// Feeds a channel of one member: a block and then a sample while it is idle, active, and idle again.
+/// Feeds a channel of one member: a block and then a sample while it is idle, active, and idle again.
 fn feeds_of_a_channel(rt: &impl Abort, alloc: Global, kept: &[i16]) {
     let calls = [
         channel_calls::Call::Create(0, Diary, 0, kept, Ok(())),

@@ -22,7 +22,8 @@ const SCRIBBLER: Or<Primed, Scribbler> = Or::Second(Scribbler);
 // The scribbler's scratch record: one word of `daram`.
 const ONE_WORD: [i16; 3] = [0, 1, 4];
 
-// The scratch word that a primed instance finds, in a host of this poison word or of none, when a scribbler that shares it was active before.
+/// The scratch word that a primed instance finds, in a host of this poison word or of none, when a scribbler that shares it was active
+/// before.
 fn scratch_word(rt: &impl Abort, alloc: Global, poison: Option<i16>) -> i16 {
     let mut host = Host::new(alloc, SIZES, poison).expect(rt, "memory");
     let primed = parameters(&[0, 0]).expect(rt, "two words");

@@ -67,7 +67,7 @@ impl<M: Ialg> Call<'_, M> {
         }
     }
 
-    // The same of a call that is about groups or spaces.
+    /// The same of a call that is about groups or spaces.
     fn holds_of_memory(&self, host: &mut Host<M>) -> bool {
         match self {
             Call::Release(group, answer) => host.release(*group) == *answer,
@@ -81,7 +81,7 @@ impl<M: Ialg> Call<'_, M> {
     }
 }
 
-// Whether a creation is answered so: of an instance of this number and kind in this group.
+/// Whether a creation is answered so: of an instance of this number and kind in this group.
 fn creates<M: Ialg>(host: &mut Host<M>, instance: (u8, M, u8), p: &[i16], answer: Outcome) -> bool {
     let (i, kind, group) = instance;
     match parameters(p) {
@@ -90,7 +90,7 @@ fn creates<M: Ialg>(host: &mut Host<M>, instance: (u8, M, u8), p: &[i16], answer
     }
 }
 
-// Whether an instance that is asked for its words tells these.
+/// Whether an instance that is asked for its words tells these.
 fn tells<M: Ialg>(host: &mut Host<M>, i: u8, words: &[i16]) -> bool {
     match host.control(i, &Ctl::Get) {
         Ok(Status::Words(answer)) => answer.as_slice() == words,
@@ -98,7 +98,7 @@ fn tells<M: Ialg>(host: &mut Host<M>, i: u8, words: &[i16]) -> bool {
     }
 }
 
-// Whether an instance refuses these words.
+/// Whether an instance refuses these words.
 fn refuses<M: Ialg>(host: &mut Host<M>, i: u8, words: &[i16], why: Refusal) -> bool {
     match parameters(words) {
         Some(words) => host.control(i, &Ctl::Set(words)) == Err(why),
@@ -106,7 +106,7 @@ fn refuses<M: Ialg>(host: &mut Host<M>, i: u8, words: &[i16], why: Refusal) -> b
     }
 }
 
-// Whether an instance lives and gives this for a block of samples.
+/// Whether an instance lives and gives this for a block of samples.
 fn gives<M: Ialg>(host: &mut Host<M>, i: u8, input: &[i16], output: &[i16]) -> bool {
     if !host.living(i) || input.is_empty() || input.len() > BLOCK_SAMPLES {
         return false;

@@ -90,7 +90,7 @@ fn a_first_block_deactivates_nobody(rt: HostRuntime) {
     make(&rt, rt.alloc(), AMPLE, None, &calls);
 }
 
-// A filter beside a kind that writes over all that it may, in hosts of three poison words and of none.
+/// A filter beside a kind that writes over all that it may, in hosts of three poison words and of none.
 #[test]
 fn a_scribbler_spoils_no_neighbour(rt: HostRuntime) {
     let calls = [

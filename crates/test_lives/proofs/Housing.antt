@@ -143,9 +143,6 @@ memory_of_two (x ∷ []) h = absurd (omega (arith, h))
 memory_of_two (x ∷ y ∷ []) h = refl
 memory_of_two (x ∷ y ∷ z ∷ p) h = absurd (omega (arith, h))
 
-pub some_same : (a b : List MemRec) → Some a ≡ Some b → a ≡ b
-some_same a b e = cc
-
 pub same_pieces_then : (a b c : Pieces) → SamePieces a b → SamePieces b c → SamePieces a c
 same_pieces_then a b c e f = record {
   p0 = same_then a.p0 b.p0 c.p0 e.p0 f.p0;

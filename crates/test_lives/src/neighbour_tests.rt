@@ -24,6 +24,7 @@ use space_raw::{Piece, Region};
 use std::alloc::Allocator;
 use std::process::Abort;
 
+/// These words as parameters.
 fn words(rt: &impl Abort, values: &[i16]) -> Words
     ensures { result.items ≡ values.now }
 {

@@ -219,7 +219,7 @@ fn goes_by(kind: Rogue, call: Call, space: Space, base: u16) -> Option<bool> {
     Some(words == [6; 4])
 }
 
-// A base of another one reaches nothing where its record isn't lent. Here it is, so that what is tried shows.
+/// A base of another one reaches nothing where its record isn't lent. Here it is, so that what is tried shows.
 #[test]
 fn a_forger_tries_the_bases_of_others_in_every_call(rt: HostRuntime) {
     for call in CALLS {
@@ -231,7 +231,7 @@ fn a_forger_tries_the_bases_of_others_in_every_call(rt: HostRuntime) {
     }
 }
 
-// The object is left with the last forged base. Its own records it reads and writes too, where a base is one of them.
+/// The object is left with the last forged base. Its own records it reads and writes too, where a base is one of them.
 #[test]
 fn a_forger_goes_by_forged_bases_in_every_call(rt: HostRuntime) {
     let forged = Memory {

@@ -15,6 +15,7 @@ use space_raw::Piece;
 use std::process::Abort;
 use test_doubles::{HIGH_ALIGNMENT, Slicer};
 
+/// These words as parameters.
 fn words(rt: &impl Abort, values: &[i16]) -> Words
     ensures { result.items ≡ values.now }
 {

@@ -13,6 +13,7 @@ use space_raw::{Piece, Region};
 use std::alloc::Global;
 use std::process::Abort;
 
+/// A record at this base.
 fn record(space: Space, base: u16, attr: Attr, size: u32, align: u32) -> MemRec
     ensures { result ≡ record { size = size; align = align; space = space; attr = attr; base = base } }
 {
@@ -51,6 +52,7 @@ fn one_space(rt: &impl Abort) -> MemTab
     .expect(rt, "a table")
 }
 
+/// A need of so many words.
 fn need(size: u32, align: u32) -> Option<Need> {
     Some(Need { size, align })
 }

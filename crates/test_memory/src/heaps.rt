@@ -13,7 +13,7 @@ struct Asked {
     returned: u64,
 }
 
-// The request of that number is refused.
+/// The request of that number is refused.
 fn ask(alloc: Global, words: u32, refused: u64) -> Asked {
     let metered = Metered::refusing(alloc, refused);
     let answer = match Heap::new(&metered, words) {

@@ -38,6 +38,7 @@ const TABLE: [MemRec; 3] = [
     },
 ];
 
+/// Fills the scratch record with a word, if it is lent for writing.
 fn fill_scratch(mem: &mut Lent<'_>, word: i16)
     ensures loans { SameLoans mem.old mem.new }
 {

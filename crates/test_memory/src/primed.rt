@@ -17,6 +17,7 @@ const STARTED: Held = Held {
     primed: [POISON],
 };
 
+/// These words as parameters.
 fn words(rt: &impl Abort, values: &[i16]) -> Words {
     assert!(rt; values.len() <= PARAMETER_WORDS);
     copied(values)

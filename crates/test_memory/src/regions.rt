@@ -9,6 +9,7 @@ use test_doubles::Metered;
 
 const ONE_TO_TWELVE: [i16; 12] = [1, 2, 3, 4, 5, 6, 7, 8, 9, 10, 11, 12];
 
+/// Fills a piece with a word.
 fn fill(piece: &mut Piece, word: i16)
     ensures place { (piece.new.region ≡ piece.old.region) × (piece.new.place ≡ piece.old.place) }
     ensures words { piece.new.words ≡ replicate (length piece.old.words) word }
@@ -16,6 +17,7 @@ fn fill(piece: &mut Piece, word: i16)
     piece.words_mut().fill(word);
 }
 
+/// Writes one word of a piece.
 fn set(piece: &mut Piece, i: usize, word: i16)
     requires inside { i < length piece.old.words }
     ensures place { (piece.new.region ≡ piece.old.region) × (piece.new.place ≡ piece.old.place) }
@@ -24,6 +26,7 @@ fn set(piece: &mut Piece, i: usize, word: i16)
     piece.words_mut()[i] = word;
 }
 
+/// Reads one word of a piece.
 fn get(piece: &Piece, i: usize) -> i16
     requires inside { i < length piece.now.words }
     ensures value { result ≡ slice_index_or piece.now.words i (pos 0) }
@@ -31,7 +34,7 @@ fn get(piece: &Piece, i: usize) -> i16
     piece.words()[i]
 }
 
-// Other words stay when a tag is written.
+/// Other words stay when a tag is written.
 fn tag_behind(rest: &mut Rest, other: u32, place: u32, tag: (i16, i16))
     requires there { IsRun rest.old.slots place 2 × IsRun rest.old.slots other 2 }
     requires behind { other + 2 ≤ place }
@@ -42,7 +45,7 @@ fn tag_behind(rest: &mut Rest, other: u32, place: u32, tag: (i16, i16))
     rest.set_tag(place, tag);
 }
 
-// A piece that leaves the rest and comes back changes nothing.
+/// A piece that leaves the rest and comes back changes nothing.
 fn leave_and_return(rest: &mut Rest, place: u32, len: u32)
     requires some { 0 < len }
     requires there { IsRun rest.old.slots place len }
@@ -119,7 +122,7 @@ struct Asked {
     returned: u64,
 }
 
-// The request of that number is refused.
+/// The request of that number is refused.
 fn ask(alloc: Global, words: u32, refused: u64) -> Asked {
     let metered = Metered::refusing(alloc, refused);
     let is_made = match Region::make(&metered, words) {

@@ -3,6 +3,7 @@ use host_map::Sizes;
 use host_spaces::{SpaceBlocks, Spaces, StartError};
 use space_heap::HeapError;
 
+/// Spaces of these sizes.
 fn sizes(daram: u32, saram: u32, external: u32) -> Sizes {
     Sizes {
         daram,

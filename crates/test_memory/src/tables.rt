@@ -11,6 +11,7 @@ const OBJECT: MemRec = MemRec {
     base: 0,
 };
 
+/// A persistent record.
 fn persistent(size: u32) -> MemRec {
     MemRec {
         size,
@@ -21,6 +22,7 @@ fn persistent(size: u32) -> MemRec {
     }
 }
 
+/// A write-once record.
 fn write_once(size: u32) -> MemRec {
     MemRec {
         size,
@@ -31,6 +33,7 @@ fn write_once(size: u32) -> MemRec {
     }
 }
 
+/// A scratch record.
 fn scratch(space: Space, size: u32, align: u32) -> MemRec {
     MemRec {
         size,
@@ -71,6 +74,7 @@ fn no_tables(rt: HostRuntime) {
     );
 }
 
+/// Whether a table with a record of this alignment is taken.
 fn is_aligned_table(align: u32) -> bool {
     MemTab::make(&[OBJECT, scratch(Space::Daram, 4, align)]).is_some()
 }

@@ -1,7 +1,7 @@
 // SPDX-License-Identifier: Apache-2.0
-//! For tests: callers of the headline of one run and of two, of its sounds, and of runs of calls through the library for C; and worked rows: of the
-//! headline's definitions, of what a host answers to lists of calls, of what an instance was given, gave and answered in such a list, and of
-//! what a console serves.
+//! For tests: callers of the headline of one run and of two, of its sounds, and of runs of calls through the library for C; and worked
+//! rows: of the headline's definitions, of what a host answers to lists of calls, of what an instance was given, gave and answered in such
+//! a list, and of what a console serves.
 #![tactic(auto)]
 
 mod beside;

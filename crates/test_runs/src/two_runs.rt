@@ -15,12 +15,11 @@ pub struct Ports<S, I, O, P> {
     pub replies: P,
 }
 
-/// Runs a script over its ports, and then another one over its own. Where both scripts are honest and both runs end well, a lawful instance of the one gives and answers
-/// the same as one of the other that is of its kind, with the same parameters, and was given the same since its creation; and a control
-/// that both were asked is refused to both, or to none, whatever they were given. So it is whatever the
-/// sizes, the poison words and the widths of the ports of the two are, whatever else their scripts ask, however the samples are cut, and whichever inputs
-/// are honest. Each run ends as the
-/// engine's does, whatever becomes of the other one.
+/// Runs a script over its ports, and then another one over its own. Where both scripts are honest and both runs end well, a lawful instance
+/// of the one gives and answers the same as one of the other that is of its kind, with the same parameters, and was given the same since
+/// its creation; and a control that both were asked is refused to both, or to none, whatever they were given. So it is whatever the sizes,
+/// the poison words and the widths of the ports of the two are, whatever else their scripts ask, however the samples are cut, and whichever
+/// inputs are honest. Each run ends as the engine's does, whatever becomes of the other one.
 pub fn run_both<M: Ialg + Named, S: PortIn, I: PortIn, O: PortOut, P: PortOut>(
     alloc: Global,
     config: Config,

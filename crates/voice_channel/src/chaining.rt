@@ -13,14 +13,14 @@ use ialg::{Ialg, Refusal};
 use mem_rec::INSTANCES;
 
 impl<M: Ialg> Channels<M> {
-    // Whether an instance is a member of a channel.
+    /// Whether an instance is a member of a channel.
     fn is_member(&self, i: u8) -> bool
         ensures { result ≡ is_in_channel self.now.chained i }
     {
         is_in_one(&self.channels, i)
     }
 
-    // Whether each of them lives.
+    /// Whether each of them lives.
     fn all_live(&self, members: &[u8]) -> bool
         ensures { result ≡ list_all (lives self.now.host) members.now }
     {
@@ -28,14 +28,14 @@ impl<M: Ialg> Channels<M> {
         members.iter().all(|i| host.living(*i))
     }
 
-    // Whether one of them is a member of a channel.
+    /// Whether one of them is a member of a channel.
     fn has_member(&self, members: &[u8]) -> bool
         ensures { result ≡ list_any (is_in_channel self.now.chained) members.now }
     {
         members.iter().any(|i| self.is_member(*i))
     }
 
-    // Why a channel can't be given these members.
+    /// Why a channel can't be given these members.
     fn chaining_refusal(&self, c: u8, members: &[u8]) -> Option<Refusal>
         ensures refusal { (state : State M) → state.chained ≡ self.now.chained
             → all_live state.host members.now ≡ list_all (lives self.now.host) members.now → chain_refusal state c members.now ≡ result }
@@ -56,7 +56,7 @@ impl<M: Ialg> Channels<M> {
         None
     }
 
-    // Gives a channel these members.
+    /// Gives a channel these members.
     fn set_members(&mut self, c: u8, members: Members)
         requires number { c < length self.old.chained }
         ensures host { self.new.host ≡ self.old.host }

@@ -16,6 +16,7 @@ pub(crate) struct Between {
 }
 
 impl Between {
+    /// Two empty blocks.
     pub(crate) fn new() -> Between {
         Between {
             one: Block::new(),
@@ -131,8 +132,8 @@ fn pass<M: Ialg>(
 }
 
 impl<M: Ialg> Channels<M> {
-    /// Gives the one sample `x` to a channel, as [`feed`](Channels::feed) does. Some sample is what the channel gave, and `out` tells nothing
-    /// then. None: what it gave, one sample or none, takes the place of what `out` held.
+    /// Gives the one sample `x` to a channel, as [`feed`](Channels::feed) does. Some sample is what the channel gave, and `out` tells
+    /// nothing then. None: what it gave, one sample or none, takes the place of what `out` held.
     ///
     /// A channel whose one member tells its output by reading its records alone, as an active decoder does, has no block to fill.
     #[inline(always)]

@@ -9,7 +9,7 @@ ghost use Rattle.voice_channel.specs.Channels.{ChannelsCallRefines};
 use crate::Channels;
 use ialg::{Ialg, Refusal};
 
-// What a call that changes nothing answers.
+/// What a call that changes nothing answers.
 fn answered<M>(refusal: Option<Refusal>) -> Result<(), Refusal>
     ensures granted { IsOk result → refusal ≡ None }
     ensures answer { (state : State M) → (result, state) ≡ unless refusal state (Ok tt, state) }
@@ -21,7 +21,7 @@ fn answered<M>(refusal: Option<Refusal>) -> Result<(), Refusal>
 }
 
 impl<M: Ialg> Channels<M> {
-    // Why a channel can't be fed.
+    /// Why a channel can't be fed.
     pub(crate) fn refusal(&self, c: u8) -> Option<Refusal>
         ensures refusal { (state : State M) → state.chained ≡ self.now.chained → channel_refusal state c ≡ result }
         ensures number { IfNone result (c < length self.now.chained) }

@@ -66,7 +66,8 @@ impl<'a> Words<'a> {
         self.other_number()
     }
 
-    /// As [`number`](Self::number) does, also for words with more blanks before them, and for numbers with a minus or beyond the greatest magnitude.
+    /// As [`number`](Self::number) does, also for words with more blanks before them, and for numbers with a minus or beyond the greatest
+    /// magnitude.
     #[inline(never)]
     fn other_number(&mut self) -> Result<Number<'a>, Refusal>
         ensures number { IfOk result (λ number. to_come self.old ≡ number.word.now ∷ to_come self.new) }
@@ -91,12 +92,13 @@ impl<'a> Words<'a> {
         M::of_name(word).ok_or(Refusal::Syntax)
     }
 
-    /// The words that are left as far as each is a number behind one blank, as parameters, in place of what `room` held: false where one is out of
-    /// its range or there are too many. Those behind it are still to come.
+    /// The words that are left as far as each is a number behind one blank, as parameters, in place of what `room` held: false where one is
+    /// out of its range or there are too many. Those behind it are still to come.
     fn leading_parameters(&mut self, room: &mut Params) -> bool
         ensures few { length room.new.items ≤ PARAMETER_WORDS }
         ensures numbers { list_all is_number (to_come self.old) ≡ list_all is_number (to_come self.new) }
-        ensures fits { fit_words (to_come self.old) ≡ (result && (nat_le (length room.new.items + length (to_come self.new)) PARAMETER_WORDS && list_all fits_word (to_come self.new))) }
+        ensures fits { fit_words (to_come self.old)
+            ≡ (result && (nat_le (length room.new.items + length (to_come self.new)) PARAMETER_WORDS && list_all fits_word (to_come self.new))) }
         ensures values { result ≡ true → map value_of (to_come self.old) ≡ room.new.items ++ map value_of (to_come self.new) }
     {
         room.clear();

@@ -1,6 +1,6 @@
 // SPDX-License-Identifier: Apache-2.0
-//! The grammar of scripts: a line's command or refusal, and the text of a reply; and what answers the lines of a script: what a line asks of the
-//! ports, and what is then given and told.
+//! The grammar of scripts: a line's command or refusal, and the text of a reply; and what answers the lines of a script: what a line asks
+//! of the ports, and what is then given and told.
 #![tactic(auto)]
 
 mod commands;

@@ -146,8 +146,8 @@ impl<'a> Number<'a> {
         (number, &line[end + 1..])
     }
 
-    /// As [`leading`](Self::leading) does, for a number without a minus and of no more than [`SHORT_DIGITS`] digits, behind which a space stands
-    /// where the line has more octets than that. None for every other line.
+    /// As [`leading`](Self::leading) does, for a number without a minus and of no more than [`SHORT_DIGITS`] digits, behind which a space
+    /// stands where the line has more octets than that. None for every other line.
     #[inline(always)]
     pub(crate) fn leading_natural(line: &'a [u8]) -> Option<(Number<'a>, &'a [u8])>
         ensures word { IfSome result (λ parts. words_of line.now ≡ parts.0.word.now ∷ words_of parts.1.now) }
@@ -179,8 +179,8 @@ impl<'a> Number<'a> {
         Some(Number::part(line, count + 1, -(magnitude as i32)))
     }
 
-    /// The number that a line begins with, where it is a word, and what stands behind the blank that follows it. None for every other line, and
-    /// for a number beyond the greatest magnitude.
+    /// The number that a line begins with, where it is a word, and what stands behind the blank that follows it. None for every other line,
+    /// and for a number beyond the greatest magnitude.
     #[inline(always)]
     pub(crate) fn leading(line: &'a [u8]) -> Option<(Number<'a>, &'a [u8])>
         ensures word { IfSome result (λ parts. words_of line.now ≡ parts.0.word.now ∷ words_of parts.1.now) }

@@ -10,14 +10,15 @@ use crate::limits::{
     BYTE_DIGITS, ENTRY_OCTETS, NAME_OCTETS, NUMBER_DIGITS, OWNER_OCTETS, REPLY_OCTETS,
     WORD_TEXT_OCTETS,
 };
+use arrayvec::ArrayVec;
 use host_map::{Map, Owner, Placed, Stat};
 use ialg::{Refusal, Words};
-use octet_buffer::Buffer;
 
 /// The line of a reply.
-pub type ReplyText = Buffer<REPLY_OCTETS>;
+pub type ReplyText = ArrayVec<u8, REPLY_OCTETS>;
 
-/// What is replied to a command. A map is thousands of octets and words are more than a hundred, so their replies name them where they stand.
+/// What is replied to a command. A map is thousands of octets and words are more than a hundred, so their replies name them where they
+/// stand.
 #[derive(Drop)]
 pub enum Reply<'a> {
     /// It is done.
@@ -36,13 +37,15 @@ pub enum Reply<'a> {
     No(Refusal),
 }
 
+/// Writes these bytes.
 fn push_all(text: &mut ReplyText, octets: &[u8])
     requires { length text.old.items + length octets.now ≤ REPLY_OCTETS }
     ensures { text.new.items ≡ text.old.items ++ octets.now }
 {
-    text.take_all(octets);
+    let _fits = text.try_extend_from_slice(octets);
 }
 
+/// Writes a number in decimal digits.
 fn push_digits(text: &mut ReplyText, number: u32)
     requires { length text.old.items + length (decimal number) ≤ REPLY_OCTETS }
     ensures { text.new.items ≡ text.old.items ++ decimal number }
@@ -53,6 +56,7 @@ fn push_digits(text: &mut ReplyText, number: u32)
     text.push(b'0' + (number % 10) as u8);
 }
 
+/// Writes a number.
 fn push_number(text: &mut ReplyText, number: u32)
     requires { length text.old.items + NUMBER_DIGITS ≤ REPLY_OCTETS }
     ensures text { text.new.items ≡ text.old.items ++ decimal number }
@@ -94,6 +98,7 @@ fn push_words(text: &mut ReplyText, words: &[i16])
     }
 }
 
+/// Writes the owner of a block: an instance and its record, or a group.
 fn push_owner(text: &mut ReplyText, owner: Owner)
     requires { length text.old.items + OWNER_OCTETS ≤ REPLY_OCTETS }
     ensures text { text.new.items ≡ text.old.items ++ owner_text owner }
@@ -150,6 +155,7 @@ fn push_active(text: &mut ReplyText, active: Option<u8>)
     }
 }
 
+/// Writes the reply to `stat`.
 fn push_stat(text: &mut ReplyText, stat: Stat)
     requires { text.old.items ≡ [] }
     ensures line { text.new.items ≡ line_text (told_stat stat.active stat.activations) }
@@ -170,6 +176,7 @@ fn push_name(text: &mut ReplyText, refusal: Refusal)
     push_all(text, refusal.name().as_bytes());
 }
 
+/// Writes the reply to a refused line.
 fn push_refusal(text: &mut ReplyText, refusal: Refusal)
     requires { text.old.items ≡ [] }
     ensures line { text.new.items ≡ line_text (told_no refusal) }

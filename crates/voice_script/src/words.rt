@@ -16,6 +16,7 @@ fn without_return(line: &[u8]) -> &[u8]
     if *last == b'\r' { text } else { line }
 }
 
+/// Whether the byte parts words: a space or a tab.
 pub(crate) fn is_blank(octet: u8) -> bool
     ensures { result ≡ is_blank octet }
 {
@@ -51,7 +52,8 @@ impl<'a> Words<'a> {
         }
     }
 
-    /// Reads the word `feed`, where the rest of the line begins with it and a space stands behind it. Otherwise nothing is read, and it answers false.
+    /// Reads the word `feed`, where the rest of the line begins with it and a space stands behind it. Otherwise nothing is read, and it
+    /// answers false.
     pub(crate) fn skip_feed(&mut self) -> bool
         ensures feed { result ≡ true → to_come self.old ≡ feed_word ∷ to_come self.new }
         ensures other { result ≡ false → self.new ≡ self.old }
@@ -98,8 +100,8 @@ impl<'a> Words<'a> {
         Some(number)
     }
 
-    /// The next word, where the rest of the line begins with it and it is a number that isn't beyond the greatest magnitude. Otherwise None, and
-    /// nothing is read.
+    /// The next word, where the rest of the line begins with it and it is a number that isn't beyond the greatest magnitude. Otherwise
+    /// None, and nothing is read.
     #[inline(always)]
     pub(crate) fn leading_number(&mut self) -> Option<Number<'a>>
         ensures number { IfSome result (λ number. to_come self.old ≡ number.word.now ∷ to_come self.new) }

@@ -2,7 +2,7 @@
 use Rattle.std.specs.Prelude.{ℕ, ℤ, List, []}
 use Rattle.mem_rec.specs.declared.MemRec.{MemRec}
 use Rattle.ialg.specs.declared.TheConstants.{FILTER_RECORDS}
-use Rattle.ialg.specs.History.{History}
+use Rattle.ialg.specs.Log.{Log}
 use Rattle.ialg.specs.Filters as filters
 use Rattle.alg_fir.specs.declared.TheConstants.{DECIM_RECORDS}
 use Rattle.alg_fir.specs.Keeps as fir
@@ -30,16 +30,16 @@ voice_fill Decim p k = p
 voice_fill G711 p k = g711.fill_of (coder_named p) k
 voice_fill _ p k = []
 
-abbrev pub IsIdle : Voice → List ℤ → List MemRec → List (List ℤ) → History → Type 0
-IsIdle Fir p rs wss h = filters.IsIdle fir.fir_kind (fir_memory p) (fir.Rests p h) rs wss
-IsIdle Decim p rs wss h = decim.IsIdleDecim p rs wss h
-IsIdle Biquad p rs wss h = filters.IsIdle biquad.biquad_kind (biquad_memory p) (biquad.Rests p h) rs wss
-IsIdle Tone p rs wss h = filters.IsIdle tone.tone_kind (tone_memory p) (tone.Rests p h) rs wss
-IsIdle G711 p rs wss h = g711.Keeps p rs wss h
+abbrev pub IsIdle : Voice → List ℤ → List MemRec → List (List ℤ) → Log → Type 0
+IsIdle Fir p rs wss l = filters.IsIdle fir.fir_kind (fir_memory p) (fir.Rests p l.history) rs wss
+IsIdle Decim p rs wss l = decim.IsIdleDecim p rs wss l.history
+IsIdle Biquad p rs wss l = filters.IsIdle biquad.biquad_kind (biquad_memory p) (biquad.Rests p l.history) rs wss
+IsIdle Tone p rs wss l = filters.IsIdle tone.tone_kind (tone_memory p) (tone.Rests p l.history) rs wss
+IsIdle G711 p rs wss l = g711.Keeps p rs wss l.history
 
-abbrev pub IsActive : Voice → List ℤ → List MemRec → List (List ℤ) → History → Type 0
-IsActive Fir p rs wss h = filters.IsActive fir.fir_kind (fir_memory p) (fir.Runs p h) rs wss
-IsActive Decim p rs wss h = decim.IsActiveDecim p rs wss h
-IsActive Biquad p rs wss h = filters.IsActive biquad.biquad_kind (biquad_memory p) (biquad.Runs p h) rs wss
-IsActive Tone p rs wss h = filters.IsActive tone.tone_kind (tone_memory p) (tone.Runs p h) rs wss
-IsActive G711 p rs wss h = g711.Keeps p rs wss h
+abbrev pub IsActive : Voice → List ℤ → List MemRec → List (List ℤ) → Log → Type 0
+IsActive Fir p rs wss l = filters.IsActive fir.fir_kind (fir_memory p) (fir.Runs p l.history) rs wss
+IsActive Decim p rs wss l = decim.IsActiveDecim p rs wss l.history
+IsActive Biquad p rs wss l = filters.IsActive biquad.biquad_kind (biquad_memory p) (biquad.Runs p l.history) rs wss
+IsActive Tone p rs wss l = filters.IsActive tone.tone_kind (tone_memory p) (tone.Runs p l.history) rs wss
+IsActive G711 p rs wss l = g711.Keeps p rs wss l.history

@@ -18,6 +18,7 @@ impl<T> Model for Apart<T> {
 }
 
 impl<T> Apart<T> {
+    /// The address of what stands in a box, and its allocator.
     pub(super) fn of(boxed: Box<T>) -> Apart<T>
     where
         T: Drop,

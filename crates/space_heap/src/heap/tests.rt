@@ -7,7 +7,7 @@ use super::{Heap, HeapError};
 use space_raw::{Piece, Region, Rest};
 use std::test::Fail;
 
-// A heap of 8 free words: one hole of two units, without a next one.
+/// A heap of 8 free words: one hole of two units, without a next one.
 fn of_eight_words(region: Region, all: Piece) -> Heap
     requires whole { (all.region ≡ region) × IsWhole all × (region.size ≡ 8) }
     ensures free { (result.region ≡ region) × Holds result [] }

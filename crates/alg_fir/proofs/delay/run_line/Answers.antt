@@ -1,8 +1,8 @@
 use Rattle.std.proofs.Common.{◌≡◌, ◌≢◌, ◌+◌, ◌-◌, ℕ, ℤ, pos, List, length, to_z, w16, arith, sym, ◌∙◌, ap, subst, get_or-set_other}
 use Rattle.std.proofs.Math.ListN.{set}
 use Rattle.std.proofs.lemmas.Int.{to_z_pos}
-use Rattle.std.proofs.lemmas.List.{take_at}
 use Rattle.ialg.specs.History.{word_at, past, with_samples}
+use Rattle.ialg.proofs.Blocks.{front_of_room}
 use Rattle.fir_kernel.specs.Rings.{IsRing}
 use Rattle.alg_fir.specs.Keeps.{AreOutputs}
 use Rattle.alg_fir.proofs.Steps.{ran, outputs_are}
@@ -23,7 +23,7 @@ returns-clause-law g c p h in_force taps size ring =
     let count : length cs ≡ d + 1 = omega arith in
     let coefficients : length p ≡ d + 1 = omega arith in
     let many : length ys ≡ c.args.taken.count = c.filter.auto.out ∙ c.split_at_mut-outputs.ensures.front_len in
-    let written = take_at ys c.split_at_mut-outputs.result.1.now (length c.set_len.new.self.items) (many ∙ sym c.set_len.ensures.len) in
+    let written = front_of_room c.set_len.new.self ys c.split_at_mut-outputs.result.1.now (many ∙ sym c.set_len.ensures.len) in
     let less : length p - 1 ≡ d = omega arith in
     let before_ring : IsRing d (length words - 1) words c.args.next h = subst (λ n. IsRing n (length words - 1) words c.args.next h) less ring in
     let before : (j k : ℕ) → j + k + 1 ≡ d → word_at line j ≡ past h k =

@@ -1,7 +1,7 @@
 use Rattle.std.proofs.Common.{◌≡◌, ◌∙◌, length, ap, sym, FitsSigned, w16, rules, arith}
 use Rattle.std.proofs.lemmas.Int.{to_z-of_z}
-use Rattle.std.proofs.lemmas.List.{take_at}
 use Rattle.ialg.specs.History.{word_at}
+use Rattle.ialg.proofs.Blocks.{front_of_room}
 use Rattle.alg_g711.proofs.Outputs.{more_read}
 use Rattle.alg_g711.proofs.kind.decode_by.Goals as goal
 
@@ -9,13 +9,13 @@ pub returns-in_default-clause-count : goal.returns-in_default-clause-count
 returns-in_default-clause-count c =
     let samples = c.decode_words.new.samples in
     let many : length samples ≡ length c.args.input.now = c.decode_words.auto.samples ∙ c.split_at_mut-samples.ensures.front_len in
-    ap length (take_at samples c.split_at_mut-samples.result.1.now (length c.set_len.new.self.items) (many ∙ sym c.set_len.ensures.len)) ∙ many
+    ap length (front_of_room c.set_len.new.self samples c.split_at_mut-samples.result.1.now (many ∙ sym c.set_len.ensures.len)) ∙ many
 
 pub returns-in_default-clause-samples : goal.returns-in_default-clause-samples
 returns-in_default-clause-samples c k b =
     let samples = c.decode_words.new.samples in
     let many : length samples ≡ length c.args.input.now = c.decode_words.auto.samples ∙ c.split_at_mut-samples.ensures.front_len in
-    ap (λ words. word_at words k) (take_at samples c.split_at_mut-samples.result.1.now (length c.set_len.new.self.items) (many ∙ sym c.set_len.ensures.len))
+    ap (λ words. word_at words k) (front_of_room c.set_len.new.self samples c.split_at_mut-samples.result.1.now (many ∙ sym c.set_len.ensures.len))
     ∙ c.decode_words.ensures.samples k b
 
 pub returns-in_default-clause-read : goal.returns-in_default-clause-read

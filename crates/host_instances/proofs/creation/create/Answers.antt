@@ -1,7 +1,7 @@
 use Rattle.std.proofs.Common.{◌≡◌, ◌<◌, ℤ, [], Option, Some, None, true, is_some, rules, sym, subst, arith}
 use Rattle.host_spaces.specs.MemoryMap.{map_of}
 use Rattle.host_table.specs.Table.{slot_at}
-use Rattle.host_table.specs.Refinement.{SlotsRefine, with_history}
+use Rattle.host_table.specs.Refinement.{HistoriesRefine, with_history}
 use Rattle.host_spec.specs.Steps.{created, newborn}
 use Rattle.host_moves.specs.Refinement.{history_of}
 use Rattle.host_instances.proofs.CreationsKept.{asks, created_kept, is_free, is_taken, map_is}
@@ -58,10 +58,10 @@ returns-in-Ok-clause-machine g c =
           _ _ _ c.start_in_spaces.new.spaces c.in-Ok.ensures.others
           c.in-Ok.ensures.newborn
           c.in-Ok.ensures.activity
-          (subst (λ (w : Option ℤ). SlotsRefine g.M.Ialg.law w c.start_in_spaces.new.tables.instances c.start_in_spaces.new.tables.sharing c.start_in_spaces.new.tables.groups (with_history (λ j. history_of (before.living j)) c.args.i [])) (sym e)
+          (subst (λ (w : Option ℤ). HistoriesRefine g.M.Ialg.law w c.start_in_spaces.new.tables.instances c.start_in_spaces.new.tables.sharing c.start_in_spaces.new.tables.groups (with_history (λ j. history_of (before.living j)) c.args.i [])) (sym e)
           (c.in-Ok.ensures.keeps (λ j. history_of (before.living j))
           (asks g.M.Ialg.law.meaning c.args.poison c.args.kind c.args.p.now.items c.in-Some.table (c.in-Some.ensures.allowed c.args.poison) (c.in-Some.ensures.unplaced c.args.poison))
-          (subst (λ (w : Option ℤ). SlotsRefine g.M.Ialg.law w c.args.tables.now.instances c.args.tables.now.sharing c.args.tables.now.groups (λ j. history_of (before.living j))) e kept.tables.histories)))
+          (subst (λ (w : Option ℤ). HistoriesRefine g.M.Ialg.law w c.args.tables.now.instances c.args.tables.now.sharing c.args.tables.now.groups (λ j. history_of (before.living j))) e kept.tables.histories)))
           c.start_in_spaces.ensures.stays,
     )
 

@@ -4,7 +4,7 @@ use Rattle.host_spaces.specs.MemoryMap.{map_of, space_in}
 use Rattle.host_spaces.specs.Pieces.{new_block, with_new}
 use Rattle.host_table.specs.Table.{group_at}
 use Rattle.scratch_group.specs.Blocks.{block_in}
-use Rattle.host_moves.proofs.Seen.{words_seen}
+use Rattle.host_moves.proofs.Seen.{histories_seen}
 use Rattle.host_moves.proofs.Owners.{alike_same, need_alike}
 use Rattle.host_moves.proofs.Rooms.{either}
 use Rattle.host_instances.specs.Blocks.{replaced_in}
@@ -104,6 +104,6 @@ returns g c =
             | inr none ↦ inl (replaced_at c.args.blocks (group_at c.args.tables.now.groups c.args.g) (group_at c.tables.inside.groups.items c.args.g) ((rw (← c.tables.view_is) at c.rest_where.ensures.same).blocks c.args.g) ∙ sym c.replaces_in-replaced.ensures ∙ none)
           ] in
           c.tell_where.ensures.keeps c.args.poison histories
-          (words_seen g.M.Ialg.law c.args.poison histories (rw (← c.tables.view_is) at c.rest_where.ensures.ok)
+          (histories_seen g.M.Ialg.law c.args.poison histories (rw (← c.tables.view_is) at c.rest_where.ensures.ok)
           (words_now c.args.g c.args.blocks _ _ _ _ c.args.spaces.now c.give_back_old.new.spaces renewed (rw (← c.tables.view_is) at c.rest_where.ensures.ok) unseen) ((rw (← c.tables.view_is) at c.rest_where.ensures.keeps) histories before));
     }

@@ -3,7 +3,9 @@ use Rattle.std.proofs.lemmas.Option.{same_Some}
 use Rattle.mem_rec.specs.declared.MemRec.{MemRec}
 use Rattle.host_table.specs.declared.member.Member.{Member}
 use Rattle.host_table.specs.Table.{slot_at, instance_of}
+use Rattle.host_table.specs.Steps.{active_beside, rested_if}
 use Rattle.host_table.proofs.Changes.{slot_in}
+use Rattle.host_table.proofs.HistoriesGo.{given_rested_if, histories_stay}
 use Rattle.host_table.proofs.Goings.{member_of}
 use Rattle.host_table.proofs.Held.{owners_of_held}
 use Rattle.host_map.specs.Creation.{handed_on, sharer_at}
@@ -86,3 +88,8 @@ returns-clause-map g c =
 
 pub returns-clause-spaces : goal.returns-clause-spaces
 returns-clause-spaces g c = stay_then _ _ _ c.hand_on.ensures.stays c.take_out_records.ensures.stays
+
+pub returns-clause-keeps : goal.returns-clause-keeps
+returns-clause-keeps g c =
+    let active = active_beside c.args.tables.now c.args.i in
+    histories_stay g.M.Ialg.law c.args.poison c.args.tables.now c.end-own.new.tables (rested_if c.args.i active) c.end-own.ensures.keeps (λ logs j. given_rested_if c.args.i active logs j)

@@ -1,4 +1,7 @@
-use Rattle.std.proofs.Common.{◌≡◌, ℕ, Bool, Option, Ok, inl, refl, sym, ap, ◌∙◌, subst, arith}
+use Rattle.std.proofs.Common.{◌≡◌, ℕ, Bool, [], Option, Ok, inl, refl, sym, ap, ◌∙◌, subst, arith}
+use Rattle.ialg.specs.Log.{begun}
+use Rattle.host_table.specs.Refinement.{logs_of, with_history, with_log}
+use Rattle.host_table.proofs.HistoriesGo.{history_with_log, kept_by_logs}
 use Rattle.lifecycle.proofs.Words.{are_new}
 use Rattle.host_map.specs.declared.placed.Owner.TheVariants.{Record}
 use Rattle.host_map.specs.MemoryMap.{blocks_in, renamed}
@@ -118,9 +121,13 @@ returns-clause-activity g c k =
 
 pub returns-clause-keeps : goal.returns-clause-keeps
 returns-clause-keeps g c histories lawful before =
-    c.begin.ensures.keeps c.args.poison histories lawful
+    let grown = c.grow.ensures.keeps histories before in
+    let logs = logs_of histories grown.0 in
+    let i = c.args.instance.number in
+    kept_by_logs g.M.Ialg.law c.args.poison c.begin.new.tables (with_log logs i begun) (with_history histories i []) (λ j. history_with_log logs histories i begun [] refl (λ k. refl) j)
+    (c.begin.ensures.keeps c.args.poison logs lawful
     (are_new c.args.poison (g.M.Ialg.law.fill c.args.instance.kind c.args.instance.params.now.items) c.args.instance.table c.in-Ok.placed.own c.in-Ok.placed.shared c.in-Ok.ensures.poison.own (λ k. inl (c.in-Ok.ensures.poison.shared k)))
-    (c.grow.ensures.keeps histories before)
+    grown.1)
 
 pub returns-clause-stays : goal.returns-clause-stays
 returns-clause-stays g c space = record {

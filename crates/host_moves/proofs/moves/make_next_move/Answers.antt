@@ -42,6 +42,9 @@ move_own-requires-clause-own g c =
     (next_record _ _ _ c.args.spaces.now c.args.space c.in-Record.i c.in-Record.k (rw (← c.tables.view_is) at c.requires.standing) (c.in-Some.block, (sym c.next_move_behind.ensures.value ∙ c.in-Some.is, c.in-Record.is)))
     (sym c.sees.ensures ∙ c.if-sees.false))
 
+pub move_own-requires-clause-unshared : goal.move_own-requires-clause-unshared
+move_own-requires-clause-unshared g c = rw (← c.tables.view_is) (sym c.sees.ensures ∙ c.if-sees.false)
+
 pub move_block-requires-clause-standing : goal.move_block-requires-clause-standing
 move_block-requires-clause-standing g c = c.requires.standing
 

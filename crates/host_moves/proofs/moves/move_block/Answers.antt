@@ -1,6 +1,8 @@
-use Rattle.std.proofs.Common.{sym, ◌∙◌, arith}
+use Rattle.std.proofs.Common.{refl, sym, ◌∙◌, arith}
+use Rattle.host_map.specs.declared.placed.Owner.TheVariants.{Scratch}
 use Rattle.host_map.specs.MemoryMap.{blocks_in}
 use Rattle.host_spaces.specs.MemoryMap.{map_of}
+use Rattle.host_moves.proofs.Hears.{block_told}
 use Rattle.host_moves.proofs.Seen.{words_seen}
 use Rattle.host_moves.proofs.Owners.{standing_stays}
 use Rattle.host_moves.proofs.OwnMoves.{kind_itself, then_same, same_sizes, words_copied}
@@ -52,5 +54,8 @@ returns g c =
       sizes = same_sizes _ _ c.make_move-moved.ensures.regions;
       copied = words_copied (blocks_in (map_of c.args.spaces.now) c.args.space) _ _ _ _ c.in-Some.piece
           (next_is _ _ _ _ _ c.args.g c.args.align (rw (← c.tables.view_is) at c.requires.ok) (rw (← c.tables.view_is) at c.requires.standing) c.requires.next c.requires.align _ (sym c.take_block.ensures.old ∙ c.in-Some.is)) c.make_move-moved.ensures.copied;
-      keeps = λ w histories before. c.call_moved_in_group.ensures.keeps w histories (words_seen g.M.Ialg.law w histories (rw (← c.tables.view_is) at c.requires.ok) words before);
+      keeps = λ b next w logs before.
+          block_told c.tables.inside.instances.items c.tables.inside.sharing.items c.args.spaces.now c.args.space (Scratch c.args.g) b c.requires.next next logs
+          g.M.Ialg.law w c.args.g c.call_moved_in_group.new.tables refl c.call_moved_in_group.ensures.ok.slot_count
+          (c.call_moved_in_group.ensures.keeps w logs (words_seen g.M.Ialg.law w logs (rw (← c.tables.view_is) at c.requires.ok) words before));
     })

@@ -1,14 +1,20 @@
-use Rattle.std.proofs.Common.{arith}
+use Rattle.std.proofs.Common.{refl, arith}
+use Rattle.std.proofs.lemmas.Bool.{eq-eqb}
+use Rattle.host_map.specs.declared.placed.Owner.TheVariants.{Record}
+use Rattle.host_moves.specs.Moves.{told_where}
+use Rattle.host_moves.specs.Waiting.{holds_with, slid_to}
+use Rattle.host_moves.proofs.Hears.{once_told}
+use Rattle.host_moves.proofs.Logs.{relogged}
 use Rattle.host_map.specs.MemoryMap.{blocks_in}
 use Rattle.host_spaces.specs.MemoryMap.{map_of}
 use Rattle.host_shared.proofs.Lent.{owners_of_all}
 use Rattle.host_table.proofs.Held.{owners_of_held}
-use Rattle.host_moves.proofs.Seen.{words_seen, words_at_rest}
+use Rattle.host_moves.proofs.Seen.{words_at_rest, words_seen}
 use Rattle.host_moves.proofs.BlockMoves.{record_number}
 use Rattle.host_moves.proofs.Nexts.{next_record}
 use Rattle.host_moves.proofs.Owners.{standing_stays}
 use Rattle.host_moves.proofs.OwnMoves.{kind_itself, then_same, same_sizes, words_copied}
-use Rattle.host_moves.proofs.OnceMoves.{next_is, region_is, range_is, below, inside_away, empty_there, back_is, least_now, waiting_now, stands, words_now}
+use Rattle.host_moves.proofs.OnceMoves.{next_is, region_is, range_is, below, inside_away, empty_there, back_is, holds_now, least_now, waiting_now, stands, words_now}
 use Rattle.host_moves.proofs.moves.move_once.Goals as goal
 use Rattle.host_moves.proofs.moves.move_once.Goals.{After-put_moved}
 
@@ -82,5 +88,14 @@ returns g c =
       map = c.make_move-moved.ensures.map;
       sizes = same_sizes _ _ c.make_move-moved.ensures.regions;
       copied = words_copied (blocks_in (map_of c.args.spaces.now) c.args.space) _ _ _ _ c.take_to_move-piece.result (next_is _ _ _ _ _ c.args.i c.args.k _ (rw (← c.tables.view_is) at c.requires.ok) (rw (← c.tables.view_is) at c.requires.standing) c.requires.next (rw (← c.tables.view_is) at c.requires.number) c.take_to_move-piece.ensures.piece) c.make_move-moved.ensures.copied;
-      keeps = λ w histories before. keeps w histories (words_seen g.M.Ialg.law w histories (rw (← c.tables.view_is) at c.requires.ok) words before);
+      keeps = λ b next w logs before.
+          let sharing = c.tables.inside.sharing.items in
+          let slid = slid_to sharing c.args.i c.args.k c.make_move-moved.result in
+          let its = next_record _ _ _ c.args.spaces.now c.args.space c.args.i c.args.k (rw (← c.tables.view_is) at c.requires.standing) c.requires.next in
+          relogged g.M.Ialg.law w c.call_moved_of_sharers.new.tables (told_where (holds_with slid c.args.i c.args.k) logs) _
+          (λ j.
+          once_told c.tables.inside.instances.items sharing c.args.spaces.now c.args.space (Record c.args.i c.args.k) b c.requires.next next logs c.args.i c.args.k j slid refl
+          (rw (← c.tables.view_is) at c.requires.shared) (eq-eqb _ c.args.i its.here)
+          (holds_now _ _ _ _ _ c.args.i c.args.k _ (rw (← c.tables.view_is) at c.requires.ok) (rw (← c.tables.view_is) at c.requires.standing) c.requires.next (rw (← c.tables.view_is) at c.requires.number) c.take_to_move-piece.ensures.piece c.make_move-moved.result j))
+          (keeps w logs (words_seen g.M.Ialg.law w logs (rw (← c.tables.view_is) at c.requires.ok) words before));
     })

@@ -1,6 +1,12 @@
+use Rattle.std.proofs.Common.{refl}
 use Rattle.host_map.specs.MemoryMap.{blocks_in}
 use Rattle.host_spaces.specs.MemoryMap.{map_of}
-use Rattle.host_moves.proofs.Seen.{words_seen, words_at_rest}
+use Rattle.ialg.specs.Log.{Moved}
+use Rattle.host_table.specs.Steps.{called_at}
+use Rattle.host_map.specs.declared.placed.Owner.TheVariants.{Record}
+use Rattle.host_moves.proofs.Logs.{relogged}
+use Rattle.host_moves.proofs.Hears.{own_told}
+use Rattle.host_moves.proofs.Seen.{words_at_rest, words_seen}
 use Rattle.host_moves.proofs.Owners.{standing_stays}
 use Rattle.host_moves.proofs.OwnMoves.{next_is, region_is, range_is, living_away, can_come_back, told_others, tables_away, room_back, stands_back, kinds_back, words_back, then_same, same_sizes, words_copied}
 use Rattle.host_moves.proofs.moves.move_own.Goals as goal
@@ -55,5 +61,10 @@ returns g c =
       map = c.make_move-moved.ensures.map;
       sizes = same_sizes _ _ c.make_move-moved.ensures.regions;
       copied = words_copied (blocks_in (map_of c.args.spaces.now) c.args.space) _ _ _ _ c.take_own-piece.result (next_is _ _ _ _ _ c.args.i c.args.k _ (rw (← c.tables.view_is) at c.requires.ok) (rw (← c.tables.view_is) at c.requires.standing) c.requires.next c.take_own-piece.ensures.piece) c.make_move-moved.ensures.copied;
-      keeps = λ w histories before. keeps w histories (words_seen g.M.Ialg.law w histories (rw (← c.tables.view_is) at c.requires.ok) words before);
+      keeps = λ b next w logs before.
+          relogged g.M.Ialg.law w c.tell.new.tables (called_at c.args.i Moved logs) _
+          (λ j.
+          own_told c.tables.inside.instances.items c.tables.inside.sharing.items c.args.spaces.now c.args.space (Record c.args.i c.args.k) b c.requires.next next logs c.args.i c.args.k j refl
+          (rw (← c.tables.view_is) at c.requires.unshared))
+          (keeps w logs (words_seen g.M.Ialg.law w logs (rw (← c.tables.view_is) at c.requires.ok) words before));
     })

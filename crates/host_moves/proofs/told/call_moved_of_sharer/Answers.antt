@@ -1,5 +1,8 @@
 use Rattle.std.proofs.Common.{is_some, sym, ◌∙◌, ap}
 use Rattle.std.proofs.lemmas.Bool.{true≢false, eq-eqb}
+use Rattle.host_table.specs.Table.{slot_at}
+use Rattle.host_spec.proofs.RunLemmas.{none_there}
+use Rattle.host_moves.proofs.Logs.{kept_by_nobody}
 use Rattle.host_moves.specs.Waiting.{all_from, holds_with}
 use Rattle.host_moves.proofs.Sharing.{none_back, from_here, but_this, nobody_told, next_told}
 use Rattle.host_moves.proofs.told.call_moved_of_sharer.Goals as goal
@@ -19,7 +22,11 @@ pub returns-then-lives-clause-same : goal.returns-then-lives-clause-same
 returns-then-lives-clause-same g c = rw (none_back c.args.tables.now.instances c.args.j) at c.tell.ensures.same
 
 pub returns-then-lives-clause-keeps : goal.returns-then-lives-clause-keeps
-returns-then-lives-clause-keeps g c w histories = rw (none_back c.args.tables.now.instances c.args.j) at (c.tell.ensures.keeps w histories)
+returns-then-lives-clause-keeps g c w logs = rw (none_back c.args.tables.now.instances c.args.j) at (c.tell.ensures.keeps w logs)
+
+pub returns-else-lives-clause-keeps : goal.returns-else-lives-clause-keeps
+returns-else-lives-clause-keeps g c w logs kept =
+    kept_by_nobody g.M.Ialg.law w c.args.tables.now c.args.j logs (none_there (slot_at c.args.tables.now.instances c.args.j) (sym c.lives.ensures ∙ c.if-lives.false)) kept
 
 pub returns-else-lives-clause-waiting : goal.returns-else-lives-clause-waiting
 returns-else-lives-clause-waiting g c =

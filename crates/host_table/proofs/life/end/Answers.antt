@@ -7,6 +7,7 @@ use Rattle.host_shared.specs.Owners.{AllHaveOwners, SameLocations}
 use Rattle.host_shared.specs.Sharing.{left_with}
 use Rattle.host_table.specs.Table.{slot_at, group_at, group_of, instance_of, AreHeld, AreBare}
 use Rattle.host_shared.specs.Locations.{shared_at}
+use Rattle.host_table.specs.Steps.{active_beside, rested_if}
 use Rattle.host_table.proofs.Changes.{slot_in, owners_of_slot, read_ok_group, fits_in_slot, own_stays, pieces_then, locations_then}
 use Rattle.host_table.proofs.Stepping.{steps_in, there_in}
 use Rattle.host_table.proofs.Sights.{Views, Sees, views_of}
@@ -173,7 +174,7 @@ pub returns-clause-keeps : goal.returns-clause-keeps
 returns-clause-keeps g c histories keeps =
     rw c.end_idle-own.ensures.emptied
     (keeps_by_end _ _ _ _ c.args.i None no_pieces (steps_in c.tables.view_is c.deactivate.ensures.step).ok (inside g c) (rw (← c.tables.view_is) at c.deactivate.ensures.idle) refl c.hand_on.new.sharing.items (views g c)
-    g.M.Ialg.law c.args.poison histories (sees g c).written tt ((steps_in c.tables.view_is c.deactivate.ensures.step).keeps histories keeps))
+    g.M.Ialg.law c.args.poison (rested_if c.args.i (active_beside c.args.tables.now c.args.i) histories) (sees g c).written tt ((steps_in c.tables.view_is c.deactivate.ensures.step).keeps histories keeps))
 
 pub returns-clause-activity : goal.returns-clause-activity
 returns-clause-activity g c = (steps_in c.tables.view_is c.deactivate.ensures.step).activity

@@ -10,6 +10,7 @@ use Rattle.host_shared.specs.Owners.{with_pieces_of}
 use Rattle.host_table.specs.Table.{IsHoused, EachIsHoused, group_at, instance_of, active_in, slot_active_in}
 use Rattle.lifecycle.specs.Turns.{HasBegun}
 use Rattle.host_shared.specs.Locations.{shared_at}
+use Rattle.ialg.specs.Log.{begun as begun_log}
 use Rattle.host_shared.specs.Joining.{sharer_at, pieces_joined, CanJoin}
 use Rattle.host_table.proofs.Housing.{settled_stays}
 use Rattle.host_shared.proofs.Lent.{owners_of_all}
@@ -173,20 +174,20 @@ pub returns-clause-keeps : goal.returns-clause-keeps
 returns-clause-keeps g c =
     let d = (goal.at.returns-clause-keeps g c).After-start_member in
     rw (← c.tables.view_is, filled g d) (λ w histories table new keeps.
-    let kept : IdleRefines g.M.Ialg.law (instance_of c.start_member.new.inst) w (shared_at c.start_member.new.sharing.items c.args.instance.number) [] =
+    let kept : IdleRefines g.M.Ialg.law (instance_of c.start_member.new.inst) w (shared_at c.start_member.new.sharing.items c.args.instance.number) begun_log =
     (λ lawful.
     let before : IsTrue (g.M.Ialg.law.meaning.lawful c.args.instance.kind c.args.instance.params.now.items w) = rw ((begun g d).same.kind, (begun g d).same.params) at lawful in
     (begun g d).keeps w (table before)
     (new_start (begins g d) g.M.Ialg.law g.met.M.Ialg.idle_fill g.met.M.Ialg.active_fill w histories keeps (record { kind = c.args.instance.kind; params = c.args.instance.params.now; table = c.args.instance.table; own = c.args.own })
     (begun g d).same.kind (begun g d).same.params (table_same g d) before new)
     lawful) in
-    let known = idle_inst g.M.Ialg.law w c.start_member.new.inst (shared_at c.start_member.new.sharing.items c.args.instance.number) (group_at c.tables.inside.groups.items c.in-Some.member.group) [] c.start_member.ensures.idle kept in
+    let known = idle_inst g.M.Ialg.law w c.start_member.new.inst (shared_at c.start_member.new.sharing.items c.args.instance.number) (group_at c.tables.inside.groups.items c.in-Some.member.group) begun_log c.start_member.ensures.idle kept in
     keeps_by_still EachIsHoused _ _ _ c.args.instance.number (Some (record { group = c.in-Some.member.group; inst = c.start_member.new.inst })) (shared_at c.start_member.new.sharing.items c.args.instance.number) (ok_in c.tables.view_is c.requires.ok) c.requires.number (ap slot_active_in (rw (← c.tables.view_is) at c.requires.empty)) (at_rest g d)
     c.start_member.new.sharing.items (views_start (begins g d) (shared_at c.start_member.new.sharing.items c.args.instance.number) (pieces g d) c.start_member.new.sharing.items (put g d))
-    g.M.Ialg.law w histories []
+    g.M.Ialg.law w histories begun_log
     (λ j m apart slot lawful.
     written_start (begins g d) (shared_at c.start_member.new.sharing.items c.args.instance.number) (pieces g d) c.start_member.new.sharing.items (put g d) g.M.Ialg.law
-    g.met.M.Ialg.idle_fill g.met.M.Ialg.active_fill w (group_at c.tables.inside.groups.items c.in-Some.member.group) [] known j m (group_at c.tables.inside.groups.items m.group) (histories j) apart slot lawful (keeps_slot c.tables.inside.groups.items g.M.Ialg.law w _ m (shared_at c.tables.inside.sharing.items j) (histories j) slot (keeps j)))
+    g.met.M.Ialg.idle_fill g.met.M.Ialg.active_fill w (group_at c.tables.inside.groups.items c.in-Some.member.group) begun_log known j m (group_at c.tables.inside.groups.items m.group) (histories j) apart slot lawful (keeps_slot c.tables.inside.groups.items g.M.Ialg.law w _ m (shared_at c.tables.inside.sharing.items j) (histories j) slot (keeps j)))
     known keeps)
 
 pub returns-clause-pieces : goal.returns-clause-pieces

@@ -1,7 +1,7 @@
 use Rattle.std.proofs.Common.{◌≡◌, ℕ}
 use Rattle.host_table.specs.Table.{activity_at, TablesTold}
 use Rattle.host_table.specs.Frames.{InactiveGroupsStay}
-use Rattle.host_table.specs.Steps.{AllHistoriesStay, MembersStay}
+use Rattle.host_table.specs.Steps.{AllLogsGo, MembersStay, told_below}
 use Rattle.host_table.proofs.moves.call_moved_in_group.Given as goal
 
 abbrev pub invariant-loop-i : goal.invariant-loop-i
@@ -10,5 +10,5 @@ invariant-loop-i g l = record {
   inactive : InactiveGroupsStay l.fn.tables.groups l.tables.groups;
   same : MembersStay l.fn.tables l.tables;
   activity : (k : ℕ) → activity_at l.tables.groups k ≡ activity_at l.fn.tables.groups k;
-  keeps : AllHistoriesStay g.M.Ialg.law l.fn.tables l.tables;
+  keeps : AllLogsGo g.M.Ialg.law l.fn.tables l.tables (told_below l.g l.i l.fn.tables);
 }

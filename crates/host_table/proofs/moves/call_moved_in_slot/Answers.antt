@@ -8,3 +8,10 @@ returns-else-is_member-clause-told g c =
 
 pub returns-else-is_member-clause-same : goal.returns-else-is_member-clause-same
 returns-else-is_member-clause-same g c = same_members _ _ _
+
+pub returns-then-is_member-clause-keeps : goal.returns-then-is_member-clause-keeps
+returns-then-is_member-clause-keeps g c w histories kept =
+    rw (sym c.is_member.ensures ∙ c.if-is_member.true) (c.call_moved_of_member.ensures.keeps w histories kept)
+
+pub returns-else-is_member-clause-keeps : goal.returns-else-is_member-clause-keeps
+returns-else-is_member-clause-keeps g c w histories kept = rw (sym c.is_member.ensures ∙ c.if-is_member.false) kept

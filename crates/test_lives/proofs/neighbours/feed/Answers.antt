@@ -1,4 +1,4 @@
-use Rattle.ialg.specs.History.{with_samples}
+use Rattle.ialg.specs.Log.{called, fed, Activate}
 use Rattle.test_lives.proofs.Housing.{same_blocks_then, same_instance_then}
 use Rattle.lifecycle.proofs.Groups.{same_blocks}
 use Rattle.test_lives.proofs.neighbours.feed.Goals as goal
@@ -20,13 +20,14 @@ pub returns-clause-lent : goal.returns-clause-lent
 returns-clause-lent g c = rw c.into_idle.ensures c.deactivate.ensures.lent
 
 pub returns-clause-keeps : goal.returns-clause-keeps
-returns-clause-keeps g c w h poison keeps =
+returns-clause-keeps g c w l poison keeps =
     rw c.into_idle.ensures
-    (c.deactivate.ensures.did.keeps w (with_samples h c.args.input.now) (c.run.ensures.did.keeps w h (rw c.into_active-active.ensures (c.activate.ensures.did.keeps w h poison keeps))))
+    (c.deactivate.ensures.did.keeps w (fed (called Activate l) c.args.input.now)
+    (c.run.ensures.did.keeps w (called Activate l) (rw c.into_active-active.ensures (c.activate.ensures.did.keeps w l poison keeps))))
 
 pub returns-clause-output : goal.returns-clause-output
-returns-clause-output g c w h lawful poison keeps =
+returns-clause-output g c w l lawful poison keeps =
     let same = c.activate.ensures.did.same in
-    let active = c.activate.ensures.did.keeps w h poison keeps in
-    let law = c.run.ensures.did.output w h (rw (c.into_active-active.ensures, same.kind, same.params) lawful) (rw c.into_active-active.ensures active) in
+    let active = c.activate.ensures.did.keeps w l poison keeps in
+    let law = c.run.ensures.did.output w (called Activate l) (rw (c.into_active-active.ensures, same.kind, same.params) lawful) (rw c.into_active-active.ensures active) in
     rw (c.into_active-active.ensures, same.kind, same.params) at law

@@ -1,6 +1,6 @@
 use Rattle.std.proofs.Common.{ap, ◌∙◌, ◌++◌, List, ℤ}
 use Rattle.std.specs.Prelude.{None}
-use Rattle.ialg.specs.History.{with_samples}
+use Rattle.ialg.specs.Log.{called, fed, Activate, Deactivate}
 use Rattle.test_lives.proofs.Housing.{lent_beside}
 use Rattle.test_lives.proofs.neighbours.interleave.Goals as goal
 
@@ -12,12 +12,12 @@ feed-first-requires-clause-lent g c = lent_beside c.feed-waiting.ensures.lent c.
 
 pub returns : goal.returns
 returns g c = record {
-  output = λ h lawful keeps.
+  output = λ l lawful keeps.
       let same = c.feed-waiting.ensures.same in
-      let first = c.feed-waiting.ensures.output None h lawful (λ space. tt) keeps in
-      let kept = c.feed-waiting.ensures.keeps None h (λ space. tt) keeps in
-      let second = c.feed-first.ensures.output None (with_samples h c.args.before.now) (rw (same.kind, same.params) lawful) (λ space. tt) kept in
+      let first = c.feed-waiting.ensures.output None l lawful (λ space. tt) keeps in
+      let kept = c.feed-waiting.ensures.keeps None l (λ space. tt) keeps in
+      let second = c.feed-first.ensures.output None (called Deactivate (fed (called Activate l) c.args.before.now)) (rw (same.kind, same.params) lawful) (λ space. tt) kept in
       let both = rw (same.kind, same.params) at second in
       both ∙ ap (λ (ys : List ℤ). ys ++ c.feed-first.new.out.items) first;
-  output_between = λ h lawful keeps. c.feed-second.ensures.output None h lawful (λ space. tt) keeps;
+  output_between = λ l lawful keeps. c.feed-second.ensures.output None l lawful (λ space. tt) keeps;
 }

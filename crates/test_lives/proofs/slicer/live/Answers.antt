@@ -3,7 +3,8 @@ use Rattle.ialg.specs.Records.{unplaced}
 use Rattle.record_loans.specs.Pieces.{SamePieces}
 use Rattle.lifecycle.specs.declared.instance.Instance.{Instance}
 use Rattle.test_doubles.specs.declared.slicer.Slicer.{Slicer}
-use Rattle.ialg.specs.History.{with_samples, Control, Get}
+use Rattle.ialg.specs.History.{Get}
+use Rattle.ialg.specs.Log.{begun, called, commanded, fed, Activate, Deactivate}
 use Rattle.ialg.specs.Meaning.{Words}
 use Rattle.scratch_group.specs.Words.{placed}
 use Rattle.host_shared.specs.Locations.{shared_at}
@@ -31,9 +32,9 @@ returns-clause-output c =
     let levels = ap (λ (s : Instance Slicer). length s.params.items) is ∙ c.requires.levels in
     let table = ap (λ (s : Instance Slicer). unplaced s.table) is ∙ c.requires.table in
     let idle = c.start.ensures.started.begun.keeps None (granted new.params.items new.table levels table) (λ k. inl tt) in
-    let was = c.activate.ensures.did.keeps None [] (λ space. tt) idle in
+    let was = c.activate.ensures.did.keeps None begun (λ space. tt) idle in
     let params = ap (λ (s : Instance Slicer). s.params) c.into_active-active.ensures ∙ c.activate.ensures.did.same.params ∙ c.start.ensures.started.begun.same.params ∙ ap (λ (s : Instance Slicer). s.params) is in
-    first_outputs c.into_active-active.result.instance.params.items c.args.levels.items c.args.input.now c.run.new.out.items (ap (λ p. p.items) params) (c.run.ensures.did.output None [] refl (rw c.into_active-active.ensures was))
+    first_outputs c.into_active-active.result.instance.params.items c.args.levels.items c.args.input.now c.run.new.out.items (ap (λ p. p.items) params) (c.run.ensures.did.output None (called Activate begun) refl (rw c.into_active-active.ensures was))
 
 pub returns-clause-answer : goal.returns-clause-answer
 returns-clause-answer c =
@@ -42,10 +43,10 @@ returns-clause-answer c =
     let levels = ap (λ (s : Instance Slicer). length s.params.items) is ∙ c.requires.levels in
     let table = ap (λ (s : Instance Slicer). unplaced s.table) is ∙ c.requires.table in
     let idle = c.start.ensures.started.begun.keeps None (granted new.params.items new.table levels table) (λ k. inl tt) in
-    let was = c.activate.ensures.did.keeps None [] (λ space. tt) idle in
-    let ran = c.run.ensures.did.keeps None [] (rw c.into_active-active.ensures was) in
+    let was = c.activate.ensures.did.keeps None begun (λ space. tt) idle in
+    let ran = c.run.ensures.did.keeps None (called Activate begun) (rw c.into_active-active.ensures was) in
     let params = c.run.ensures.did.same.params ∙ ap (λ (s : Instance Slicer). s.params) c.into_active-active.ensures ∙ c.activate.ensures.did.same.params ∙ c.start.ensures.started.begun.same.params ∙ ap (λ (s : Instance Slicer). s.params) is in
-    c.control-status.ensures.did.status None (with_samples [] c.args.input.now) refl refl ran ∙ ap (λ p. Words p.items) params
+    c.control-status.ensures.did.status None (fed (called Activate begun) c.args.input.now) refl refl ran ∙ ap (λ p. Words p.items) params
 
 pub returns-clause-once : goal.returns-clause-once
 returns-clause-once c =
@@ -54,13 +55,13 @@ returns-clause-once c =
     let levels = ap (λ (s : Instance Slicer). length s.params.items) is ∙ c.requires.levels in
     let table = ap (λ (s : Instance Slicer). unplaced s.table) is ∙ c.requires.table in
     let idle = c.start.ensures.started.begun.keeps None (granted new.params.items new.table levels table) (λ k. inl tt) in
-    let was = c.activate.ensures.did.keeps None [] (λ space. tt) idle in
-    let ran = c.run.ensures.did.keeps None [] (rw c.into_active-active.ensures was) in
-    let asked = c.control-status.ensures.did.keeps None (with_samples [] c.args.input.now) refl ran in
-    let rested = c.deactivate.ensures.did.keeps None (Control Get ∷ with_samples [] c.args.input.now) asked refl in
+    let was = c.activate.ensures.did.keeps None begun (λ space. tt) idle in
+    let ran = c.run.ensures.did.keeps None (called Activate begun) (rw c.into_active-active.ensures was) in
+    let asked = c.control-status.ensures.did.keeps None (fed (called Activate begun) c.args.input.now) refl ran in
+    let rested = c.deactivate.ensures.did.keeps None (commanded (fed (called Activate begun) c.args.input.now) Get) asked refl in
     let params = c.deactivate.ensures.did.same.params ∙ c.control-status.ensures.did.same.params ∙ c.run.ensures.did.same.params ∙ ap (λ (s : Instance Slicer). s.params) c.into_active-active.ensures ∙ c.activate.ensures.did.same.params
     ∙ c.start.ensures.started.begun.same.params ∙ ap (λ (s : Instance Slicer). s.params) is in
-    levels_kept c.deactivate.new.self.instance.params.items c.deactivate.new.self.instance.table c.deactivate.new.self.instance.own (shared_at c.deactivate.new.sharing.items 0) (Control Get ∷ with_samples [] c.args.input.now) rested ∙ ap (λ p. p.items) params
+    levels_kept c.deactivate.new.self.instance.params.items c.deactivate.new.self.instance.table c.deactivate.new.self.instance.own (shared_at c.deactivate.new.sharing.items 0) (called Deactivate (commanded (fed (called Activate begun) c.args.input.now) Get)).history rested ∙ ap (λ p. p.items) params
 
 pub returns-clause-own : goal.returns-clause-own
 returns-clause-own c =

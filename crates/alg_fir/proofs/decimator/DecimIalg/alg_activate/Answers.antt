@@ -6,7 +6,8 @@ use Rattle.alg_fir.proofs.DecimSteps.{is_taken}
 use Rattle.alg_fir.proofs.decimator.DecimIalg.alg_activate.Goals as goal
 
 pub returns-clause-law : goal.returns-clause-law
-returns-clause-law c p w h lawful closed lent poison idle =
+returns-clause-law c p w l lawful closed lent poison idle =
+    let h = l.history in
     let m = c.args.mem.now in
     let new = c.restore_ring.new.mem in
     let rests = with_scratch p m.table.now (lent_words m) h idle in

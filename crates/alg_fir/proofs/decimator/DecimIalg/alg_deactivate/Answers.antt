@@ -6,7 +6,8 @@ use Rattle.alg_fir.proofs.DecimSteps.{is_taken}
 use Rattle.alg_fir.proofs.decimator.DecimIalg.alg_deactivate.Goals as goal
 
 pub returns-clause-law : goal.returns-clause-law
-returns-clause-law c p w h lawful closed lent active =
+returns-clause-law c p w l lawful closed lent active =
+    let h = l.history in
     let m = c.args.mem.now in
     let new = c.save_past.new.mem in
     let t = is_taken p active.constants.taken in

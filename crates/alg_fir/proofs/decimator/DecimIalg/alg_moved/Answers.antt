@@ -9,7 +9,8 @@ use Rattle.ialg.proofs.Tables.{lasting_at}
 use Rattle.alg_fir.proofs.decimator.DecimIalg.alg_moved.Goals as goal
 
 pub returns-clause-idle : goal.returns-clause-idle
-returns-clause-idle c p w h before lawful moved table closed lent idle =
+returns-clause-idle c p w l before lawful moved table closed lent idle =
+    let h = l.history in
     let m = c.name_records.new.self in
     let old = c.args.mem.now in
     let tab = c.args.tab.now in
@@ -26,7 +27,8 @@ returns-clause-idle c p w h before lawful moved table closed lent idle =
     })
 
 pub returns-clause-active : goal.returns-clause-active
-returns-clause-active c p w h before lawful moved table closed lent active =
+returns-clause-active c p w l before lawful moved table closed lent active =
+    let h = l.history in
     let m = c.name_records.new.self in
     let old = c.args.mem.now in
     let tab = c.args.tab.now in

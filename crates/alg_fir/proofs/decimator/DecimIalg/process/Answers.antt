@@ -9,7 +9,8 @@ use Rattle.ialg.proofs.Histories.{IsWordHistory-with_samples, words_in_force-wit
 use Rattle.alg_fir.proofs.decimator.DecimIalg.process.Goals as goal
 
 pub returns-clause-law : goal.returns-clause-law
-returns-clause-law c p w h lawful closed lent active =
+returns-clause-law c p w l lawful closed lent active =
+    let h = l.history in
     let m = c.args.mem.now in
     let xs = c.args.input.now in
     let new = c.run_ring.new.mem in

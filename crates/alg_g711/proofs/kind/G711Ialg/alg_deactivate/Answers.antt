@@ -3,4 +3,6 @@ use Rattle.alg_g711.proofs.Keeping.{without_scratch}
 use Rattle.alg_g711.proofs.kind.G711Ialg.alg_deactivate.Goals as goal
 
 pub returns-clause-law : goal.returns-clause-law
-returns-clause-law c p w h begun closed lent keeps = without_scratch p c.args._mem.now.table.now (lent_words c.args._mem.now) h keeps
+returns-clause-law c p w l begun closed lent keeps =
+    let h = l.history in
+    without_scratch p c.args._mem.now.table.now (lent_words c.args._mem.now) h keeps

@@ -24,19 +24,24 @@ moved_words c p before h moved keeps =
     (λ k other. words_but 0 k m new c.write_object_of.ensures.others other)
 
 pub returns-clause-active : goal.returns-clause-active
-returns-clause-active c p w h before lawful moved table closed lent keeps = moved_words c p before h moved keeps
+returns-clause-active c p w l before lawful moved table closed lent keeps =
+    let h = l.history in
+    moved_words c p before h moved keeps
 
 pub returns-clause-idle : goal.returns-clause-idle
-returns-clause-idle c p w h before lawful moved table closed lent keeps =
+returns-clause-idle c p w l before lawful moved table closed lent keeps =
+    let h = l.history in
     let tab = c.args.tab.now in
     let all = with_scratch p before tab (lent_words c.args.mem.now) h moved keeps in
     without_scratch p tab (lent_words c.write_object_of.new.mem) h (moved_words c p before h moved all)
 
 pub returns-in_default-clause-active : goal.returns-in_default-clause-active
-returns-in_default-clause-active c p w h before lawful moved table closed lent keeps =
+returns-in_default-clause-active c p w l before lawful moved table closed lent keeps =
+    let h = l.history in
     absurd (c.in_default.not-Some keeps.coder ((rw c.object.ensures at c.coder_of.ensures) keeps.coder _ _ keeps.object))
 
 pub returns-in_default-clause-idle : goal.returns-in_default-clause-idle
-returns-in_default-clause-idle c p w h before lawful moved table closed lent keeps =
+returns-in_default-clause-idle c p w l before lawful moved table closed lent keeps =
+    let h = l.history in
     let all = with_scratch p before c.args.tab.now (lent_words c.args.mem.now) h moved keeps in
     absurd (c.in_default.not-Some all.coder ((rw c.object.ensures at c.coder_of.ensures) all.coder _ _ all.object))

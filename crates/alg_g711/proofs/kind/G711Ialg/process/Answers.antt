@@ -6,7 +6,8 @@ use Rattle.alg_g711.proofs.Keeping.{goes_on}
 use Rattle.alg_g711.proofs.kind.G711Ialg.process.Goals as goal
 
 pub returns-clause-law : goal.returns-clause-law
-returns-clause-law c p w h lawful closed lent keeps =
+returns-clause-law c p w l lawful closed lent keeps =
+    let h = l.history in
     let m = c.args.mem.now in
     let xs = c.args.input.now in
     let words = IsWordHistory-with_samples h xs keeps.history (c.run.ensures.read p h keeps lent) in (

@@ -10,7 +10,8 @@ use Rattle.alg_g711.proofs.kind.G711Ialg.process_sample.Goals as goal
 
 pub returns-then-once-eq-CODES : goal.returns-then-once-eq-CODES
 returns-then-once-eq-CODES c = record {
-  law = λ p w h rs lawful lent keeps.
+  law = λ p w l rs lawful lent keeps.
+      let h = l.history in
       let wss = c.args._object.now ∷ c.args.once.now ∷ [] ∷ [] ∷ [] in
       let x = c.args.x in
       let told : to_z w16 (of_z w16 c.sample_of.result) ≡ c.sample_of.result = to_z-of_z {w = w16} (record { sfits = c.sample_of.type_inv }) in

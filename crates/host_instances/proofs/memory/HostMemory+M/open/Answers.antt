@@ -1,4 +1,5 @@
 use Rattle.std.proofs.Common.{[], None, subst, sym}
+use Rattle.host_table.specs.Refinement.{logs_of}
 use Rattle.host_moves.proofs.Maps.{standing_start}
 use Rattle.host_moves.specs.Refinement.{IsLiving}
 use Rattle.host_instances.proofs.memory.HostMemory+M.open.Goals as goal
@@ -16,7 +17,7 @@ returns-clause-machine g c = λ w.
       tables = record {
         living = λ i. subst (λ slot. IsLiving slot None) (sym (made.empty i)) tt;
         activity = made.activity;
-        histories = made.keeps w (λ i. []);
+        histories = (λ i. [], made.keeps w (logs_of (λ i. []) (λ i. [])));
       };
       map = c.of-spaces.ensures.map;
       sizes = c.of-spaces.ensures.sizes;

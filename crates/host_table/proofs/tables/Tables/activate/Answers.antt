@@ -5,9 +5,11 @@ use Rattle.lifecycle.specs.declared.instance.Inst.TheVariants.{Idling, Running}
 use Rattle.mem_rec.specs.declared.TheConstants.{GROUPS}
 use Rattle.host_shared.specs.Locations.{shared_at}
 use Rattle.host_table.specs.Table.{group_at, group_of, slot_at, slot_active_in, activity_at, instance_of}
-use Rattle.host_table.proofs.Changes.{member_of, once_inside, owners_of_slot, read_ok_group, read_later, slot_in, turned, fits_in_slot}
+use Rattle.host_table.proofs.Changes.{same_tables, member_of, once_inside, owners_of_slot, read_ok_group, read_later, slot_in, turned, fits_in_slot}
 use Rattle.host_table.proofs.Activities.{same_group_of, not_active, none_active_after, activity_after_activation}
-use Rattle.host_table.proofs.Stepping.{Change, running_there, ok_in, steps_to, steps_then, steps_after_change}
+use Rattle.host_table.proofs.Stepping.{Change, running_there, ok_in, steps_to, steps_then, steps_told, steps_logged, touched_stays, turned_active, turned_idle, steps_after_step}
+use Rattle.host_table.specs.Steps.{active_beside, called_at, unchanged}
+use Rattle.ialg.specs.Log.{called, Activate}
 use Rattle.host_table.proofs.tables.Tables.activate.Goals as goal
 use Rattle.host_table.proofs.tables.Tables.activate.Goals.{After-make_active}
 use Rattle.host_table.proofs.tables.Tables.activate.Given.{Over}
@@ -99,13 +101,24 @@ returns-clause-step g c =
     let ok = c.requires.ready.ok in
     let idle = not_active (group_at c.args.self.now.groups c.in-Some.g).active c.args.i
     (λ active. none-some _ (sym c.in-Some.ensures.idle ∙ ok.active_there _ _ (in_range g c) active)) in
-    steps_then c.deactivate_in-deactivated.ensures.step
+    steps_logged (λ histories. rw (← c.in-Some.ensures.group) (turned_idle (group_at c.args.self.now.groups c.in-Some.g).active c.args.i histories idle))
+    (steps_then {then = called_at c.args.i Activate} c.deactivate_in-deactivated.ensures.step
     (rw (← c.self.view_is)
     (steps_to (instances g c) c.activate.ensures.seen
-    (steps_after_change (change g c) (rw (← c.self.view_is) at c.deactivate_in-deactivated.ensures.step.poisoned) (λ e. absurd (none-some _ (sym e ∙ c.activate.ensures.did.active)))
+    (steps_after_step (change g c) (rw (← c.self.view_is) at c.deactivate_in-deactivated.ensures.step.poisoned) (λ e. absurd (none-some _ (sym e ∙ c.activate.ensures.did.active)))
     (λ k. rw (← c.in-Some.ensures.group)
     (activity_after_activation (activity_at c.args.self.now.groups) (activity_at c.self.inside.groups.items) c.in-Some.g c.args.i _
     (rw (← c.self.view_is) at c.deactivate_in-deactivated.ensures.step.activity) idle c.activate.ensures.did.active (rw (group_is g c) c.activate.ensures.did.activations) k))
+    (λ histories. called Activate (histories c.args.i))
     (λ histories before. c.activate.ensures.did.keeps c.args.poison (histories c.args.i)
     (rw (group_is g c) at ((rw (← c.self.view_is) at c.deactivate_in-deactivated.ensures.step.poisoned) c.in-Some.g (in_range g c) (none g c)))
-    (rw c.in-Idling.is at before)))))
+    (rw c.in-Idling.is at before))))))
+
+pub returns-in_default-clause-step : goal.returns-in_default-clause-step
+returns-in_default-clause-step g c =
+    let t = c.args.self.now in
+    let ready = c.requires.ready in
+    let known = ready.ok.active_known _ _ c.in_default.ensures.active in
+    steps_logged {first = unchanged} (λ histories. turned_active (active_beside t c.args.i) c.args.i histories known)
+    (steps_told (touched_stays (activity_at t.groups) _ c.args.i known)
+    (record { ok = ready.ok; poisoned = ready.poisoned; same = same_tables t.instances t.sharing t.groups; activity = λ k. refl; keeps = λ histories kept. kept }))

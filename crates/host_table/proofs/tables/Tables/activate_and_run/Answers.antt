@@ -5,9 +5,11 @@ use Rattle.mem_rec.specs.declared.TheConstants.{GROUPS}
 use Rattle.host_shared.specs.Locations.{shared_at}
 use Rattle.host_table.specs.Table.{group_at, group_of, slot_at, slot_active_in, activity_at, instance_of}
 use Rattle.host_map.specs.Activity.{newly_active}
+use Rattle.ialg.specs.Log.{called, fed, Activate}
+use Rattle.host_table.proofs.Histories.{given_at_once}
 use Rattle.host_table.proofs.Changes.{once_inside, owners_of_slot, read_ok_group, read_there, member_of, slot_in, turned, kept_in_slot, fits_in_slot}
 use Rattle.host_table.proofs.Activities.{same_activity}
-use Rattle.host_table.proofs.Stepping.{Change, ok_in, steps_to, steps_after_step}
+use Rattle.host_table.proofs.Stepping.{Change, ok_in, steps_logged, steps_to, steps_after_step}
 use Rattle.host_table.proofs.tables.Tables.activate_and_run.Goals as goal
 use Rattle.host_table.proofs.tables.Tables.activate_and_run.Goals.{After-make_active}
 use Rattle.host_table.proofs.tables.Tables.activate_and_run.Given.{Over}
@@ -78,11 +80,13 @@ module _ (g : Over) (c : After-make_active g) where
 pub returns-clause-step : goal.returns-clause-step
 returns-clause-step g c w poisoned =
     rw (← c.self.view_is)
+    (steps_logged (λ histories at j. given_at_once c.args.i c.args.input.now histories j at)
     (steps_to (instances g c) c.activate_and_run.ensures.seen
     (steps_after_step (change g c) (rw (← c.self.view_is) at poisoned) (λ e. absurd (none-some _ (sym e ∙ c.activate_and_run.ensures.did.active)))
     (same_activity (activity_at c.self.inside.groups.items) c.args.g _ (newly_active c.args.i (activity_at c.self.inside.groups.items c.args.g)) c.activate_and_run.ensures.did.active (rw (group_is g c) c.activate_and_run.ensures.did.activations))
-    _ (λ histories before. c.activate_and_run.ensures.did.keeps w (histories c.args.i)
-    (rw (group_is g c) at ((rw (← c.self.view_is) at poisoned) c.args.g (in_range g c) (rw (← c.self.view_is) at c.requires.resting))) (rw c.in-Idling.is at before))))
+    (λ histories. fed (called Activate (histories c.args.i)) c.args.input.now)
+    (λ histories before. c.activate_and_run.ensures.did.keeps w (histories c.args.i)
+    (rw (group_is g c) at ((rw (← c.self.view_is) at poisoned) c.args.g (in_range g c) (rw (← c.self.view_is) at c.requires.resting))) (rw c.in-Idling.is at before)))))
 
 pub returns-clause-output : goal.returns-clause-output
 returns-clause-output g c w poisoned histories keeps m at lawful =

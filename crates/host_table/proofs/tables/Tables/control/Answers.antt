@@ -5,6 +5,8 @@ use Rattle.host_table.specs.Table.{instance_of}
 use Rattle.host_table.proofs.Changes.{later_member, member_of}
 use Rattle.host_table.proofs.Housing.{lawful_before, lawful_after}
 use Rattle.host_table.proofs.Stepping.{steps_then, steps_told, stays_of}
+use Rattle.host_table.specs.Steps.{active_beside, turned}
+use Rattle.host_table.proofs.Histories.{given_turned}
 use Rattle.host_table.proofs.tables.Tables.control.Goals as goal
 
 pub returns-clause-step : goal.returns-clause-step
@@ -25,8 +27,9 @@ returns-clause-status g c histories m at lawful keeps =
     let yes : c.accepts.result ≡ true = search rules in
     let accepts : Accepts g.M.Ialg.law.meaning (instance_of later.0.inst) (control_of c.args.c.now) =
     rw (same.kind, same.params) (sym (c.accepts.ensures c.args.poison m at lawful) ∙ yes) in
-    rw (same.kind, same.params) at
-    (c.control_active.ensures.status c.args.poison histories later.0 later.1.0 (lawful_after g.M.Ialg.law.meaning _ _ c.args.poison same lawful) accepts (c.activate.ensures.step.keeps histories keeps))
+    let active = active_beside c.args.self.now c.args.i in
+    rw (same.kind, same.params, given_turned c.args.i active histories c.args.i) at
+    (c.control_active.ensures.status c.args.poison (turned c.args.i active histories) later.0 later.1.0 (lawful_after g.M.Ialg.law.meaning _ _ c.args.poison same lawful) accepts (c.activate.ensures.step.keeps histories keeps))
 
 pub returns-clause-stays : goal.returns-clause-stays
 returns-clause-stays g c = stays_of (returns-clause-step g c)

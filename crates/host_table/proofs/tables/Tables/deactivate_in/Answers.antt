@@ -7,7 +7,7 @@ use Rattle.host_map.specs.Activity.{deactivated}
 use Rattle.host_shared.specs.Locations.{shared_at}
 use Rattle.host_table.proofs.Changes.{owners_of_slot, read_ok_group, read_active, read_alone, read_slot, once_inside, active_inside, turned, fits_in_slot}
 use Rattle.host_table.proofs.Activities.{same_activity}
-use Rattle.host_table.proofs.Stepping.{Change, ok_in, steps_to, steps_after_change}
+use Rattle.host_table.proofs.Stepping.{Change, ok_in, rested_known, steps_logged, steps_to, steps_after_step}
 use Rattle.host_table.proofs.tables.Tables.deactivate_in.Goals as goal
 use Rattle.host_table.proofs.tables.Tables.deactivate_in.Goals.{After-make_idle}
 use Rattle.host_table.proofs.tables.Tables.deactivate_in.Given.{Over}
@@ -89,7 +89,8 @@ module _ (g : Over) (c : After-make_idle g) where
 pub returns-clause-step : goal.returns-clause-step
 returns-clause-step g c =
     rw (← c.self.view_is)
+    (steps_logged (λ histories. rested_known (group_at c.self.inside.groups.items c.args.g).active c.in-Some.i histories ((ok_in c.self.view_is c.requires.ready.ok).active_known _ _ (there g c)))
     (steps_to (instances g c) c.deactivate.ensures.seen
-    (steps_after_change (change g c) (rw (← c.self.view_is) at c.requires.ready.poisoned) (λ e. c.deactivate.ensures.did.poisoned)
+    (steps_after_step (change g c) (rw (← c.self.view_is) at c.requires.ready.poisoned) (λ e. c.deactivate.ensures.did.poisoned)
     (same_activity (activity_at c.self.inside.groups.items) c.args.g _ (deactivated (activity_at c.self.inside.groups.items c.args.g)) c.deactivate.ensures.did.active (rw (group_is g c) c.deactivate.ensures.did.activations))
-    (λ histories before. c.deactivate.ensures.did.keeps c.args.poison (histories c.in-Some.i) (rw (group_is g c, c.in-Running.is) at before))))
+    _ (λ histories before. c.deactivate.ensures.did.keeps c.args.poison (histories c.in-Some.i) (rw (group_is g c, c.in-Running.is) at before)))))

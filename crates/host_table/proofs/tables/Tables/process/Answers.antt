@@ -6,7 +6,9 @@ use Rattle.host_map.specs.Activity.{newly_active}
 use Rattle.host_table.proofs.Changes.{later_member, member_of, never_active}
 use Rattle.host_table.proofs.Activities.{same_group_of, not_active, none_active_after, activity_after_activation}
 use Rattle.host_table.proofs.Housing.{lawful_after}
-use Rattle.host_table.proofs.Stepping.{steps_told, steps_then, touched_stays}
+use Rattle.host_table.proofs.Stepping.{steps_logged, steps_told, steps_then, touched_stays, turned_active, turned_idle}
+use Rattle.host_table.specs.Steps.{active_beside, given, rested}
+use Rattle.host_table.proofs.Histories.{given_rested}
 use Rattle.host_table.proofs.tables.Tables.process.Goals as goal
 
 pub activate_and_run-requires-clause-idle : goal.activate_and_run-requires-clause-idle
@@ -26,24 +28,29 @@ returns-clause-step g c =
     let in_range : c.in-Some.g < GROUPS = subst (λ (k : ℕ). k < GROUPS) group (c.requires.ready.ok.group_range c.args.i m.0 m.1) in
     let idle = not_active (group_at c.args.self.now.groups c.in-Some.g).active c.args.i
     (λ active. none-some _ (sym c.in-Some.ensures.idle ∙ c.requires.ready.ok.active_there _ _ in_range active)) in
-    steps_told
+    steps_logged
+    (λ histories. rw (← c.in-Some.ensures.group) (ap (given c.args.i c.args.input.now) (turned_idle (group_at c.args.self.now.groups c.in-Some.g).active c.args.i histories idle)))
+    (steps_told
     (λ k. rw (← c.in-Some.ensures.group)
     (activity_after_activation (activity_at c.args.self.now.groups) (activity_at c.deactivate_in-deactivated.new.self.groups) c.in-Some.g c.args.i
     (newly_active c.args.i (activity_at c.deactivate_in-deactivated.new.self.groups c.in-Some.g)) c.deactivate_in-deactivated.ensures.step.activity idle refl refl k))
-    (steps_then c.deactivate_in-deactivated.ensures.step (c.activate_and_run.ensures.step c.args.poison c.deactivate_in-deactivated.ensures.step.poisoned))
+    (steps_then c.deactivate_in-deactivated.ensures.step (c.activate_and_run.ensures.step c.args.poison c.deactivate_in-deactivated.ensures.step.poisoned)))
 
 pub returns-clause-output : goal.returns-clause-output
 returns-clause-output g c histories keeps m at lawful =
     let later = later_member _ _ m at (c.deactivate_in-deactivated.ensures.step.same.slot c.args.i) in
     let same = later.1.1 in
-    rw (same.kind, same.params) at
-    (c.activate_and_run.ensures.output c.args.poison c.deactivate_in-deactivated.ensures.step.poisoned histories (c.deactivate_in-deactivated.ensures.step.keeps histories keeps) later.0 later.1.0
+    let active = (activity_at c.args.self.now.groups c.in-Some.g).active in
+    rw (same.kind, same.params, given_rested active histories c.args.i) at
+    (c.activate_and_run.ensures.output c.args.poison c.deactivate_in-deactivated.ensures.step.poisoned (rested active histories) (c.deactivate_in-deactivated.ensures.step.keeps histories keeps) later.0 later.1.0
     (lawful_after g.M.Ialg.law.meaning _ _ c.args.poison same lawful))
 
 pub returns-in_default-clause-step : goal.returns-in_default-clause-step
 returns-in_default-clause-step g c =
-    steps_told (touched_stays (activity_at c.args.self.now.groups) _ c.args.i (c.requires.ready.ok.active_known _ _ c.in_default.ensures.active))
-    (c.run.ensures.step c.args.poison c.requires.ready.poisoned)
+    let known = c.requires.ready.ok.active_known _ _ c.in_default.ensures.active in
+    steps_logged (λ histories. ap (given c.args.i c.args.input.now) (turned_active (active_beside c.args.self.now c.args.i) c.args.i histories known))
+    (steps_told (touched_stays (activity_at c.args.self.now.groups) _ c.args.i known)
+    (c.run.ensures.step c.args.poison c.requires.ready.poisoned))
 
 pub deactivate_in-deactivated-requires-clause-range : goal.deactivate_in-deactivated-requires-clause-range
 deactivate_in-deactivated-requires-clause-range g c =

@@ -8,7 +8,8 @@ use Rattle.ialg.proofs.Hosting.{kept_named, running_named, running_size, with_sc
 use Rattle.ialg.proofs.hosted.AnyIalg.activate_and_process.Goals as goal
 
 pub returns-clause-law : goal.returns-clause-law
-returns-clause-law g c p w h lawful closed lent poison idle =
+returns-clause-law g c p w l lawful closed lent poison idle =
+    let h = l.history in
     let F = g.K.Filter in
     let m = c.args.mem.now in
     let xs = c.args.input.now in
@@ -28,7 +29,8 @@ returns-clause-law g c p w h lawful closed lent poison idle =
     )
 
 pub returns-in_default-clause-law : goal.returns-in_default-clause-law
-returns-in_default-clause-law g c p w h lawful closed lent poison idle =
+returns-in_default-clause-law g c p w l lawful closed lent poison idle =
+    let h = l.history in
     let F = g.K.Filter in
     let m = c.args.mem.now in
     let asked = F.filter.memory p in

@@ -7,7 +7,8 @@ use Rattle.ialg.proofs.Hosting.{kept_named, running_named, running_size, with_sc
 use Rattle.ialg.proofs.hosted.AnyIalg.alg_activate.Goals as goal
 
 pub returns-clause-law : goal.returns-clause-law
-returns-clause-law g c p w h lawful closed lent poison idle =
+returns-clause-law g c p w l lawful closed lent poison idle =
+    let h = l.history in
     let F = g.K.Filter in
     let m = c.args.mem.now in
     let asked = F.filter.memory p in
@@ -23,7 +24,8 @@ returns-clause-law g c p w h lawful closed lent poison idle =
     running_now F.KIND asked m.table.now _ (lent_words m) (lent_words c.put.new.self) placed (F.runs p h) v.written (rw same at restored)
 
 pub returns-in_default-clause-law : goal.returns-in_default-clause-law
-returns-in_default-clause-law g c p w h lawful closed lent poison idle =
+returns-in_default-clause-law g c p w l lawful closed lent poison idle =
+    let h = l.history in
     let F = g.K.Filter in
     let m = c.args.mem.now in
     let asked = F.filter.memory p in

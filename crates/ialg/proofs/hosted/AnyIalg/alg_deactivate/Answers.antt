@@ -7,7 +7,8 @@ use Rattle.ialg.proofs.Hosting.{kept_named, running_named, without_scratch, rest
 use Rattle.ialg.proofs.hosted.AnyIalg.alg_deactivate.Goals as goal
 
 pub returns-clause-law : goal.returns-clause-law
-returns-clause-law g c p w h lawful closed lent active =
+returns-clause-law g c p w l lawful closed lent active =
+    let h = l.history in
     let F = g.K.Filter in
     let m = c.args.mem.now in
     let asked = F.filter.memory p in
@@ -22,7 +23,8 @@ returns-clause-law g c p w h lawful closed lent active =
     (rests_now F.KIND asked m.table.now _ (lent_words m) (lent_words c.put.new.self) placed (F.rests p h) v.written saved)
 
 pub returns-in_default-clause-law : goal.returns-in_default-clause-law
-returns-in_default-clause-law g c p w h lawful closed lent active =
+returns-in_default-clause-law g c p w l lawful closed lent active =
+    let h = l.history in
     let F = g.K.Filter in
     let placed = active.placed in
     let named = kept_named F.KIND (F.filter.memory p) c.args.mem.now placed lent in

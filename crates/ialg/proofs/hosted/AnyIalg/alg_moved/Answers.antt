@@ -7,7 +7,8 @@ use Rattle.ialg.proofs.Hosting.{none_once, without_scratch}
 use Rattle.ialg.proofs.hosted.AnyIalg.alg_moved.Goals as goal
 
 pub returns-clause-active : goal.returns-clause-active
-returns-clause-active g c p w h before lawful moved table closed lent active =
+returns-clause-active g c p w l before lawful moved table closed lent active =
+    let h = l.history in
     let F = g.K.Filter in
     let m = c.write_object_of.new.mem in
     let old = c.args.mem.now in
@@ -23,7 +24,8 @@ returns-clause-active g c p w h before lawful moved table closed lent active =
     record { placed = placed; keeps = rw (first, second) active.keeps }
 
 pub returns-clause-idle : goal.returns-clause-idle
-returns-clause-idle g c p w h before lawful moved table closed lent idle =
+returns-clause-idle g c p w l before lawful moved table closed lent idle =
+    let h = l.history in
     let F = g.K.Filter in
     let m = c.write_object_of.new.mem in
     let old = c.args.mem.now in

@@ -10,7 +10,8 @@ use Rattle.ialg.proofs.Hosting.{kept_named, running_named, running_now}
 use Rattle.ialg.proofs.hosted.AnyIalg.process.Goals as goal
 
 pub returns-clause-law : goal.returns-clause-law
-returns-clause-law g c p w h lawful closed lent active =
+returns-clause-law g c p w l lawful closed lent active =
+    let h = l.history in
     let F = g.K.Filter in
     let m = c.args.mem.now in
     let xs = c.args.input.now in
@@ -28,7 +29,8 @@ returns-clause-law g c p w h lawful closed lent active =
     )
 
 pub returns-in_default-clause-law : goal.returns-in_default-clause-law
-returns-in_default-clause-law g c p w h lawful closed lent active =
+returns-in_default-clause-law g c p w l lawful closed lent active =
+    let h = l.history in
     let F = g.K.Filter in
     let placed = active.placed in
     let named = running_named F.KIND (F.filter.memory p) c.args.mem.now placed lent in

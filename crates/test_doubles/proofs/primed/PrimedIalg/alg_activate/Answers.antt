@@ -6,7 +6,8 @@ use Rattle.test_doubles.proofs.Kept.{active, primed_word}
 use Rattle.test_doubles.proofs.primed.PrimedIalg.alg_activate.Goals as goal
 
 pub returns-clause-law : goal.returns-clause-law
-returns-clause-law c p w h lawful closed lent poison keeps =
+returns-clause-law c p w l lawful closed lent poison keeps =
+    let h = l.history in
     let m = c.args._mem.now in
     let on_table = keeps.object.on_table in
     record {

@@ -4,7 +4,8 @@ use Rattle.test_doubles.proofs.Kept.{without_scratch, active_by, moved}
 use Rattle.test_doubles.proofs.primed.PrimedIalg.alg_moved.Goals as goal
 
 pub returns-clause-active : goal.returns-clause-active
-returns-clause-active c p w h before lawful same table closed lent keeps =
+returns-clause-active c p w l before lawful same table closed lent keeps =
+    let h = l.history in
     let others = c.name_records.ensures.others in
     let first = ap (λ r. r.now) (others.others1 (λ e. omega arith)) in
     let second = ap (λ r. r.now) (others.others2 (λ e. omega arith)) in
@@ -14,7 +15,8 @@ returns-clause-active c p w h before lawful same table closed lent keeps =
     }
 
 pub returns-clause-idle : goal.returns-clause-idle
-returns-clause-idle c p w h before lawful same table closed lent keeps =
+returns-clause-idle c p w l before lawful same table closed lent keeps =
+    let h = l.history in
     let tab = c.args.tab.now in
     let old = lent_words c.args.mem.now in
     let new = lent_words c.name_records.new.self in

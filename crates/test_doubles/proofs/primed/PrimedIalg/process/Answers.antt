@@ -5,7 +5,8 @@ use Rattle.test_doubles.proofs.Kept.{silent}
 use Rattle.test_doubles.proofs.primed.PrimedIalg.process.Goals as goal
 
 pub returns-clause-law : goal.returns-clause-law
-returns-clause-law c p w h lawful closed lent keeps =
+returns-clause-law c p w l lawful closed lent keeps =
+    let h = l.history in
     let xs = c.args.input.now in (
       record {
         idle = record {

@@ -11,7 +11,8 @@ use Rattle.test_doubles.proofs.Levels.{active_by, high_named, low_named, spread_
 use Rattle.test_doubles.proofs.slicer.SlicerIalg.alg_activate.Goals as goal
 
 pub returns-clause-law : goal.returns-clause-law
-returns-clause-law c p w h lawful closed lent poison idle =
+returns-clause-law c p w l lawful closed lent poison idle =
+    let h = l.history in
     let m = c.args.mem.now in
     let between = c.spread_low.new.mem in
     let rs = m.table.now in
@@ -34,7 +35,8 @@ returns-clause-law c p w h lawful closed lent poison idle =
     spread_over p rs (lent_words m) (lent_words between) (lent_words c.spread_high.new.mem) h keeps low high
 
 pub returns-then-levels-ne-LEVELS-clause-law : goal.returns-then-levels-ne-LEVELS-clause-law
-returns-then-levels-ne-LEVELS-clause-law c p w h lawful closed lent poison idle =
+returns-then-levels-ne-LEVELS-clause-law c p w l lawful closed lent poison idle =
+    let h = l.history in
     let m = c.args.mem.now in
     let keeps = active_by p m.table.now m.table.now (lent_words m) h refl idle in
     let levels = ap length (c.as_slice-levels.ensures.value ∙ c.kept_levels-levels.ensures p h lent keeps) ∙ keeps.two in

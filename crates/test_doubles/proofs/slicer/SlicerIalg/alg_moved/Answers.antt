@@ -4,7 +4,8 @@ use Rattle.test_doubles.proofs.Levels.{without_scratch, active_by, moved}
 use Rattle.test_doubles.proofs.slicer.SlicerIalg.alg_moved.Goals as goal
 
 pub returns-clause-active : goal.returns-clause-active
-returns-clause-active c p w h before lawful same table closed lent keeps =
+returns-clause-active c p w l before lawful same table closed lent keeps =
+    let h = l.history in
     let others = c.name_records.ensures.others in
     let levels = moved p before c.args.tab.now (lent_words c.args.mem.now) (lent_words c.name_records.new.self) h same keeps.levels
     (c.name_records.ensures.names keeps.levels.object.long) (ap (λ r. r.now) (others.others1 (λ e. omega arith))) in
@@ -15,7 +16,8 @@ returns-clause-active c p w h before lawful same table closed lent keeps =
     }
 
 pub returns-clause-idle : goal.returns-clause-idle
-returns-clause-idle c p w h before lawful same table closed lent keeps =
+returns-clause-idle c p w l before lawful same table closed lent keeps =
+    let h = l.history in
     let tab = c.args.tab.now in
     let old = lent_words c.args.mem.now in
     let new = lent_words c.name_records.new.self in

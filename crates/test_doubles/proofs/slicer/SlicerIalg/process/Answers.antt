@@ -12,7 +12,8 @@ use Rattle.test_doubles.proofs.Levels.{goes_on, high_named, low_named, outputs-w
 use Rattle.test_doubles.proofs.slicer.SlicerIalg.process.Goals as goal
 
 pub returns-clause-law : goal.returns-clause-law
-returns-clause-law c p w h lawful closed lent keeps =
+returns-clause-law c p w l lawful closed lent keeps =
+    let h = l.history in
     let m = c.args.mem.now in
     let xs = c.args.input.now in
     let object = keeps.levels.object in

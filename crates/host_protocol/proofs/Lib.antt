@@ -1,0 +1,5 @@
+pub mod Stages
+pub mod Granted
+pub mod InOrder
+pub mod StillLive
+pub mod Runs

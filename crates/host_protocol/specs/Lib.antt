@@ -1,0 +1,3 @@
+pub mod Protocol
+pub mod Order
+pub mod Rows

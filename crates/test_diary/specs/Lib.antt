@@ -1,0 +1,2 @@
+pub mod Diary
+pub mod Turns
