@@ -4,7 +4,8 @@
 #     make install [PREFIX=/usr/local] [DESTDIR=]    puts the programs, the C library, the Python package, man pages, completion, documents
 #                                                    and examples in place
 #     make uninstall [PREFIX=/usr/local] [DESTDIR=]  takes away what was installed there, and nothing else
-#     make dist                                      makes out/rokdaum-VERSION-x86_64-linux.tar.gz (in the repository)
+#     make dist                                      makes all that is released, with checksums, in out/dist (in the repository): the three below
+#     make archive                                   makes out/rokdaum-VERSION-x86_64-linux.tar.gz (in the repository)
 #     make deb                                       makes Debian packages of it, in out/deb (in the repository)
 #     make wheel                                     makes a wheel of the Python package with the library, in out (in the repository)
 #     make check                                     tests everything (in the repository), or runs the examples (in a release)
@@ -26,12 +27,15 @@ package = $(root)/share/rokdaum
 PYTHON ?= python3
 finds = import os, sys; print(next((it for it in sys.path if it.startswith("$(PREFIX)/") and os.path.basename(it) in ("dist-packages", "site-packages")), ""))
 PYTHONDIR ?= $(shell $(PYTHON) -c '$(finds)' 2> /dev/null)
-version := $(shell cat $(dir $(lastword $(MAKEFILE_LIST)))VERSION)
-soname = librokdaum.so.$(firstword $(subst ., ,$(version)))
+here := $(dir $(lastword $(MAKEFILE_LIST)))
+version := $(shell cat $(here)VERSION)
+soname := $(shell cat $(here)SONAME)
+# Where the loader finds the library's build for processors of this level.
+hwcaps = glibc-hwcaps/x86-64-v3
 programs = dsp_console gateway_console
 commands = dsp_run dsp_design dsp_map
 
-.PHONY: all help install uninstall dist deb wheel check
+.PHONY: all help install uninstall dist archive deb wheel check
 ifneq ($(wildcard tools/release.py),)
 all:
 	@command -v python3 > /dev/null || { echo 'make: python3 is missing here: apt-get install python3' >&2; exit 69; }
@@ -53,6 +57,9 @@ install:
 	$(MAKE) -C $(stage) install PREFIX='$(PREFIX)' DESTDIR='$(DESTDIR)'
 
 dist:
+	tools/dist.py $(CHANGED)
+
+archive:
 	tools/release.py $(CHANGED)
 
 deb:
@@ -79,6 +86,8 @@ install:
 	install -D -m 644 lib/librokdaum.so.$(version) '$(root)/lib/librokdaum.so.$(version)'
 	ln -sf librokdaum.so.$(version) '$(root)/lib/$(soname)'
 	ln -sf $(soname) '$(root)/lib/librokdaum.so'
+	[ ! -d lib/$(hwcaps) ] || { install -D -m 644 lib/$(hwcaps)/librokdaum.so.$(version) '$(root)/lib/$(hwcaps)/librokdaum.so.$(version)' && \
+	    ln -sf librokdaum.so.$(version) '$(root)/lib/$(hwcaps)/$(soname)'; }
 	mkdir -p '$(root)/lib/pkgconfig'
 	sed -e 's|^prefix=.*|prefix=$(PREFIX)|' -e 's|^includedir=.*|includedir=$${prefix}/include|' lib/pkgconfig/rokdaum.pc > '$(root)/lib/pkgconfig/rokdaum.pc'
 	install -D -m 644 -t '$(root)/lib/cmake/rokdaum' lib/cmake/rokdaum/*.cmake
@@ -95,7 +104,7 @@ install:
 	ln -sfn ../../rokdaum/python '$(doc)/python'
 	mkdir -p '$(doc)/c' && ln -sf ../../../../include/rokdaum.h '$(doc)/c/rokdaum.h'
 
-dist deb wheel:
+dist archive deb wheel:
 	@echo 'this is a release; make $@ makes one in the repository' >&2; exit 1
 
 check:
@@ -109,12 +118,13 @@ uninstall:
 	    case $$file in \
 	        python/*) rm -f '$(package)'/"$$file" ;; \
 	        docs/man/*) rm -f '$(man)'/man"$${file##*.}/$${file#docs/man/}" ;; \
-	        lib/pkgconfig/rokdaum.pc | lib/cmake/rokdaum/*.cmake | lib/librokdaum.a | lib/librokdaum.so.*) rm -f '$(root)'/"$$file" ;; \
+	        lib/pkgconfig/rokdaum.pc | lib/cmake/rokdaum/*.cmake | lib/librokdaum.a | lib/librokdaum.so.* | lib/$(hwcaps)/*) rm -f '$(root)'/"$$file" ;; \
 	        *) rm -f '$(doc)'/"$$file" ;; \
 	    esac; \
 	done
-	rm -f '$(doc)/SHA256SUMS' '$(completion)/dsp_console' '$(completion)/gateway_console' '$(root)/include/rokdaum.h' '$(root)/lib/librokdaum.so' '$(root)/lib/$(soname)'
+	rm -f '$(doc)/SHA256SUMS' '$(completion)/dsp_console' '$(completion)/gateway_console' '$(root)/include/rokdaum.h' '$(root)/lib/librokdaum.so' '$(root)/lib/$(soname)' '$(root)/lib/$(hwcaps)/$(soname)'
 	for one in $(programs) $(commands); do rm -f '$(root)/bin/'$$one; done
 	@[ -z '$(PYTHONDIR)' ] || [ ! -L '$(DESTDIR)$(PYTHONDIR)/rokdaum' ] || rm '$(DESTDIR)$(PYTHONDIR)/rokdaum'
 	@find '$(package)' -depth -name __pycache__ -exec rm -rf {} +
+	@[ ! -d '$(root)/lib/glibc-hwcaps' ] || find '$(root)/lib/glibc-hwcaps' -depth -type d -exec rmdir --ignore-fail-on-non-empty {} +
 	@find '$(doc)' '$(package)' '$(root)/lib/cmake/rokdaum' -depth -type d -exec rmdir --ignore-fail-on-non-empty {} +

@@ -15,34 +15,34 @@ typedef struct rokdaum_handle {
 
 int32_t rokdaum_proved_open(rokdaum_handle *handle, const rokdaum_options *options);
 int32_t rokdaum_proved_close(rokdaum_handle *handle);
-int32_t rokdaum_proved_create(rokdaum_handle *handle, uint8_t i, uint32_t kind, uint8_t group, const int16_t *parameters, size_t parameters_len, uint32_t *full);
+int32_t rokdaum_proved_create(rokdaum_handle *handle, uint8_t i, uint32_t kind, uint8_t group, const int16_t *parameters, rokdaum_length parameters_len, uint32_t *full);
 int32_t rokdaum_proved_delete(rokdaum_handle *handle, uint8_t i);
-int32_t rokdaum_proved_chain(rokdaum_handle *handle, uint8_t channel, const uint8_t *members, size_t members_len);
+int32_t rokdaum_proved_chain(rokdaum_handle *handle, uint8_t channel, const uint8_t *members, rokdaum_length members_len);
 int32_t rokdaum_proved_unchain(rokdaum_handle *handle, uint8_t channel);
 int32_t rokdaum_proved_ready(rokdaum_handle *handle, uint8_t channel);
 int32_t rokdaum_proved_feed_sample(rokdaum_handle *handle, uint8_t channel, int16_t sample, int16_t *out, uint32_t *count);
-int32_t rokdaum_proved_feed(rokdaum_handle *handle, uint8_t channel, const int16_t *input, size_t input_len, int16_t *out, size_t out_len, uint32_t *count);
-int32_t rokdaum_proved_set(rokdaum_handle *handle, uint8_t i, const int16_t *words, size_t words_len);
+int32_t rokdaum_proved_feed(rokdaum_handle *handle, uint8_t channel, const int16_t *input, rokdaum_length input_len, int16_t *out, rokdaum_length out_len, uint32_t *count);
+int32_t rokdaum_proved_set(rokdaum_handle *handle, uint8_t i, const int16_t *words, rokdaum_length words_len);
 int32_t rokdaum_proved_reset(rokdaum_handle *handle, uint8_t i);
-int32_t rokdaum_proved_get(rokdaum_handle *handle, uint8_t i, int16_t *words, size_t words_len, uint32_t *count);
+int32_t rokdaum_proved_get(rokdaum_handle *handle, uint8_t i, int16_t *words, rokdaum_length words_len, uint32_t *count);
 int32_t rokdaum_proved_step(rokdaum_handle *handle, uint32_t space, uint32_t *moved);
 int32_t rokdaum_proved_compact(rokdaum_handle *handle, uint32_t space, uint32_t *moved);
 int32_t rokdaum_proved_copied(rokdaum_handle *handle, uint64_t *words);
 int32_t rokdaum_proved_release(rokdaum_handle *handle, uint8_t group, uint32_t *released);
 int32_t rokdaum_proved_stat(rokdaum_handle *handle, uint8_t group, int32_t *active, uint32_t *activations);
-int32_t rokdaum_proved_map(rokdaum_handle *handle, uint32_t space, rokdaum_block *blocks, size_t blocks_len, uint32_t *count);
+int32_t rokdaum_proved_map(rokdaum_handle *handle, uint32_t space, rokdaum_block *blocks, rokdaum_length blocks_len, uint32_t *count);
 
 int16_t rokdaum_proved_add(int16_t a, int16_t b);
 int32_t rokdaum_proved_l_mac(int32_t v, int16_t a, int16_t b);
 int32_t rokdaum_proved_div_s(int16_t a, int16_t b, int16_t *quotient);
-int32_t rokdaum_proved_add_block(const int16_t *a, size_t a_len, const int16_t *b, size_t b_len, int16_t *out, size_t out_len);
-int32_t rokdaum_proved_sub_block(const int16_t *a, size_t a_len, const int16_t *b, size_t b_len, int16_t *out, size_t out_len);
-int32_t rokdaum_proved_mult_block(int16_t gain, const int16_t *samples, size_t samples_len, int16_t *out, size_t out_len);
-int32_t rokdaum_proved_shl_block(const int16_t *samples, size_t samples_len, int16_t shift, int16_t *out, size_t out_len);
-int32_t rokdaum_proved_shr_block(const int16_t *samples, size_t samples_len, int16_t shift, int16_t *out, size_t out_len);
-int32_t rokdaum_proved_l_mac_block(int32_t v, const int16_t *a, size_t a_len, const int16_t *b, size_t b_len, int32_t *sum);
-int32_t rokdaum_proved_fir(const int16_t *coefficients, size_t coefficients_len, const int16_t *line, size_t line_len, int16_t *out, size_t out_len);
-int32_t rokdaum_proved_g711_encode(uint32_t law, const int16_t *samples, size_t samples_len, uint8_t *codes, size_t codes_len);
-int32_t rokdaum_proved_g711_decode(uint32_t law, const uint8_t *codes, size_t codes_len, int16_t *samples, size_t samples_len);
+int32_t rokdaum_proved_add_block(const int16_t *a, rokdaum_length a_len, const int16_t *b, rokdaum_length b_len, int16_t *out, rokdaum_length out_len);
+int32_t rokdaum_proved_sub_block(const int16_t *a, rokdaum_length a_len, const int16_t *b, rokdaum_length b_len, int16_t *out, rokdaum_length out_len);
+int32_t rokdaum_proved_mult_block(int16_t gain, const int16_t *samples, rokdaum_length samples_len, int16_t *out, rokdaum_length out_len);
+int32_t rokdaum_proved_shl_block(const int16_t *samples, rokdaum_length samples_len, int16_t shift, int16_t *out, rokdaum_length out_len);
+int32_t rokdaum_proved_shr_block(const int16_t *samples, rokdaum_length samples_len, int16_t shift, int16_t *out, rokdaum_length out_len);
+int32_t rokdaum_proved_l_mac_block(int32_t v, const int16_t *a, rokdaum_length a_len, const int16_t *b, rokdaum_length b_len, int32_t *sum);
+int32_t rokdaum_proved_fir(const int16_t *coefficients, rokdaum_length coefficients_len, const int16_t *line, rokdaum_length line_len, int16_t *out, rokdaum_length out_len);
+int32_t rokdaum_proved_g711_encode(uint32_t law, const int16_t *samples, rokdaum_length samples_len, uint8_t *codes, rokdaum_length codes_len);
+int32_t rokdaum_proved_g711_decode(uint32_t law, const uint8_t *codes, rokdaum_length codes_len, int16_t *samples, rokdaum_length samples_len);
 
 #endif

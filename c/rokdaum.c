@@ -19,6 +19,8 @@
 #endif
 
 _Static_assert(sizeof(rokdaum_handle) == sizeof(((rokdaum *)0)->machine), "a handle is the machine of a rokdaum");
+_Static_assert(sizeof(rokdaum_handle) == 16, "a handle is two words of 64 bits, also where addresses have 32");
+_Static_assert(sizeof(rokdaum_length) == 8, "a length has 64 bits");
 _Static_assert(sizeof(rokdaum_block) == 24, "a block is six words of 32 bits");
 _Static_assert(offsetof(rokdaum_handle, at) == 8, "the pointer comes after the mark");
 
@@ -29,10 +31,6 @@ struct allocated {
     bool there;
     void *at;
 };
-struct allocated rattle_alloc(size_t size, size_t align);
-struct allocated rattle_realloc(void *memory, size_t kept, size_t size, size_t align);
-void rattle_dealloc(void *memory);
-
 static const char nowhere;
 /* Whose memory serves while a host is opened or closed. An allocator may open another host meanwhile. */
 static PER_THREAD const rokdaum_allocator *current;
@@ -64,19 +62,49 @@ static void heap_release(void *context, void *memory)
 
 static const rokdaum_allocator heap = {heap_allocate, heap_release, 0};
 
-struct allocated rattle_alloc(size_t size, size_t align)
+static struct allocated allocated(size_t size, size_t align)
 {
     void *at = current->allocate(current->context, size ? size : align, align);
     return (struct allocated){at != 0, at ? at : (void *)&nowhere};
 }
 
+#if UINTPTR_MAX > 0xffffffff
+struct allocated rattle_alloc(size_t size, size_t align);
+struct allocated rattle_alloc(size_t size, size_t align)
+{
+    return allocated(size, align);
+}
+
 /* The library grows no block: it is linked, and never called. */
+struct allocated rattle_realloc(void *memory, size_t kept, size_t size, size_t align);
 struct allocated rattle_realloc(void *memory, size_t kept, size_t size, size_t align)
 {
     (void)memory, (void)kept, (void)size, (void)align;
     return (struct allocated){false, (void *)&nowhere};
 }
+#else
+/* Addresses of 32 bits: ports/to32.py has the answer written to the caller's memory, the flag and the pointer in 64 bits each. */
+static void answer(uint64_t *to, struct allocated from)
+{
+    to[0] = from.there;
+    to[1] = (uintptr_t)from.at;
+}
 
+void rokdaum_rattle_alloc(uint64_t *to, uint64_t size, uint64_t align);
+void rokdaum_rattle_alloc(uint64_t *to, uint64_t size, uint64_t align)
+{
+    answer(to, size <= SIZE_MAX ? allocated((size_t)size, (size_t)align) : (struct allocated){false, (void *)&nowhere});
+}
+
+void rokdaum_rattle_realloc(uint64_t *to, void *memory, uint64_t kept, uint64_t size, uint64_t align);
+void rokdaum_rattle_realloc(uint64_t *to, void *memory, uint64_t kept, uint64_t size, uint64_t align)
+{
+    (void)memory, (void)kept, (void)size, (void)align;
+    answer(to, (struct allocated){false, (void *)&nowhere});
+}
+#endif
+
+void rattle_dealloc(void *memory);
 void rattle_dealloc(void *memory)
 {
     current->release(current->context, memory);

@@ -28,7 +28,7 @@
 extern "C" {
 #endif
 
-#define ROKDAUM_VERSION "0.9.0"
+#define ROKDAUM_VERSION "1.0.0"
 
 typedef enum rokdaum_code {
     ROKDAUM_OK = 0,
@@ -106,6 +106,14 @@ enum {
     ROKDAUM_COEFFICIENTS = 64,    /* the most coefficients of a FIR filter or a decimator */
     ROKDAUM_MAP_BLOCKS = 264      /* the most blocks of a memory space */
 };
+
+/* A length as the proved code takes it: size_t, or as many bits where addresses have 32. Only the proved entry points take it, which
+ * programs do not call by name. */
+#if UINTPTR_MAX > 0xffffffff
+typedef size_t rokdaum_length;
+#else
+typedef uint64_t rokdaum_length;
+#endif
 
 /* Where rokdaum_open_with gets its memory. `allocate` returns `size` bytes aligned to `align`, a power of two up to 16, or a null
  * pointer; `release` frees what it returned. Both get `context`. */
@@ -263,7 +271,7 @@ rokdaum_code rokdaum_dialled(rokdaum_digits *digits, const int16_t *codes, size_
 /* A feed of few samples takes less time than its tests for null pointers, so these stand here: a compiler that sees the pointers
  * leaves them out. The rest is proved. A library for callers that see no header has rokdaum_feed too. */
 struct rokdaum_handle;
-int32_t rokdaum_proved_feed(struct rokdaum_handle *handle, uint8_t channel, const int16_t *input, size_t input_len, int16_t *out, size_t out_len, uint32_t *count);
+int32_t rokdaum_proved_feed(struct rokdaum_handle *handle, uint8_t channel, const int16_t *input, rokdaum_length input_len, int16_t *out, rokdaum_length out_len, uint32_t *count);
 int32_t rokdaum_proved_feed_sample(struct rokdaum_handle *handle, uint8_t channel, int16_t sample, int16_t *out, uint32_t *count);
 
 inline rokdaum_code rokdaum_feed(rokdaum *host, uint8_t channel, const int16_t *samples, size_t count, int16_t *out, size_t room, uint32_t *given)

@@ -4,8 +4,8 @@
 
     tools/archive.py NAME ..
 
-All that a library stands on is proved first, unless this machine has proved it already. The exit status is 0 where all archives
-stand there, and else that of dsp_console where it can't be built.
+All that a library stands on is proved first, unless this machine has proved it already. NAME@BUILD is a further build:
+dsp_library@x86-64-v3, dsp_library@aarch64-linux-gnu, and dsp_library@module, which is the LLVM module crates/NAME/out/NAME.ll. The exit status is 0 where all of them stand there, and else that of dsp_console where it can't be built.
 """
 
 from __future__ import annotations
@@ -16,6 +16,7 @@ import program
 
 
 def main(names: list[str]) -> int:
+    """Makes what isn't made; the exit status."""
     try:
         program.build(lambda text: print(f"{' '.join(names)}: {text}", file=sys.stderr, flush=True), *names)
     except program.CantBuild as refusal:

@@ -7,7 +7,7 @@
     tools/deb.py --source FOLDER   makes their source there and builds nothing: for a machine of its own, as tests/deb does
     tools/deb.py --changed ..      takes files that were changed and not committed, too
 
-Debian: apt-get install dpkg-dev debhelper dh-python python3-all libgstreamer1.0-dev pkg-config. The folder debian has what each package is.
+Debian: apt-get install build-essential debhelper dh-python python3-all libgstreamer1.0-dev pkg-config. The folder debian has what each package is.
 """
 
 from __future__ import annotations

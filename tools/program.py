@@ -5,7 +5,7 @@
 over a copy of their crates and of those below, without their must-fail edits: every crate is proved, as many at a time as the graph, the
 processors and the memory allow, and the programs are what that run makes. A second run beside it proves the longest chain of crates, for
 which the others would wait. The archive of a static library is made by `rattle build` over what the first run leaves; it builds a proved
-crate alone.
+crate alone. So are further builds of it, named CRATE@BUILD: for x86-64-v3, for another processor, and its LLVM module.
 """
 
 from __future__ import annotations
@@ -15,6 +15,7 @@ import hashlib
 import json
 import os
 import re
+import shlex
 import shutil
 import subprocess
 import sys
@@ -35,6 +36,10 @@ CRATES = TOP / "crates"
 NAME = "dsp_console_main"
 GATEWAY = "gateway_console"
 MIXED = "mixed_console"
+# Further builds of a crate, and what `rattle build` is given for each: dsp_library@x86-64-v3 is that library for x86-64-v3.
+BUILDS = {"x86-64-v3": ("--cpu", "x86-64-v3"), "aarch64-linux-gnu": ("--target", "aarch64-unknown-linux-gnu"), "module": ()}
+# That which is the LLVM module, as text, that the others are compiled from: ports/ compiles it for further processors.
+MODULE = "module"
 # What a crate is proved from.
 SOURCES = ("src", "specs", "proofs")
 # What else a program's folder has, for its stored run.
@@ -79,19 +84,39 @@ def listed() -> dict[str, crate_list.Crate]:
     return crate_list.listed(TOP)
 
 
+def crate_of(name: str) -> str:
+    """The crate of a program, a library, or a further build of one."""
+    return name.partition("@")[0]
+
+
+def build_of(name: str) -> str:
+    """Which further build of its crate a name is, or nothing."""
+    return name.partition("@")[2]
+
+
 def is_archive(name: str) -> bool:
     """Whether crates.txt has the crate as a static library."""
-    return name in listed() and listed()[name].is_archive
+    crate = crate_of(name)
+    return crate in listed() and listed()[crate].is_archive
+
+
+def is_by_rattle(name: str) -> bool:
+    """Whether `rattle build` makes it, and not `rt ci`: the archive of a static library, and each further build."""
+    return is_archive(name) or bool(build_of(name))
 
 
 def path_of(name: str = NAME) -> Path:
-    """Where a program, or the archive of a static library, stands once it is built."""
-    return CRATES / name / "out" / (f"lib{name}.a" if is_archive(name) else name)
+    """Where a program, the archive of a static library, or a further build of one stands once it is built."""
+    crate, build = crate_of(name), build_of(name)
+    if build == MODULE:
+        return CRATES / crate / "out" / f"{crate}.ll"
+    of_build = f"-{build}" if build else ""
+    return CRATES / crate / "out" / (f"lib{crate}{of_build}.a" if is_archive(crate) else f"{crate}{of_build}")
 
 
 def built_from(name: str = NAME) -> Path:
     """The file with the checksum of the sources that a program was built from."""
-    return CRATES / name / "out" / "built_from"
+    return CRATES / crate_of(name) / "out" / "-".join(filter(None, ("built_from", build_of(name))))
 
 
 def uses() -> dict[str, list[str]]:
@@ -101,7 +126,7 @@ def uses() -> dict[str, list[str]]:
 
 def closure(*names: str) -> list[str]:
     """Crates and the crates of the repository that they are built over, lowest first: those of dsp_console where none is named."""
-    return crate_list.closure(listed(), *(names or (NAME,)))
+    return crate_list.closure(listed(), *dict.fromkeys(map(crate_of, names or (NAME,))))
 
 
 def source_files(crate: str) -> list[str]:
@@ -137,7 +162,7 @@ def is_built(name: str = NAME) -> bool:
 
 def is_made(made: Path, name: str) -> bool:
     """Whether there is a program that can be run, or an archive."""
-    return os.access(made, os.R_OK if is_archive(name) else os.X_OK)
+    return os.access(made, os.R_OK if is_by_rattle(name) else os.X_OK)
 
 
 def keep(name: str, sources: str) -> None:
@@ -150,7 +175,7 @@ def take(made: Path, name: str, sources: str) -> None:
     """Puts a program that was made from these sources in its place, whole or not at all."""
     program = path_of(name)
     program.parent.mkdir(parents=True, exist_ok=True)
-    parts = [path.with_suffix(f".{os.getpid()}") for path in (program, built_from(name))]
+    parts = [path.with_name(f"{path.name}.{os.getpid()}") for path in (program, built_from(name))]
     shutil.copy2(made, parts[0])
     parts[1].write_text(sources)
     for part, path in zip(parts, (program, built_from(name))):
@@ -173,11 +198,11 @@ def keep_archive(name: str, sources: str) -> None:
     if sources != checksum(name):
         return
     with tempfile.TemporaryDirectory(prefix="dsp_console-build-") as folder:
-        made = Path(folder) / "made"
         log = Path(tempfile.gettempdir()) / f"dsp_console-build-{os.getpid()}.log"
-        make_archive(made, TOP, closure(name), log)
-        log.unlink()
+        made = Path(folder) / "made"
+        make_by_rattle(made, TOP, name, log, Path(folder) / "checked")
         take(made, name, sources)
+        log.unlink()
 
 
 def kit_lines(text: str) -> list[str]:
@@ -393,21 +418,57 @@ def copy_closure(room: Path, names: list[str]) -> None:
                 shutil.copy(path, room / "crates" / crate)
 
 
-def make_archive(made: Path, room: Path, crates: list[str], log: Path) -> None:
-    """Makes the archive of a static library, the last of these crates, over the libraries that `rt ci` made of the others in the room."""
-    name, kit = crates[-1], Path(shutil.which("rattle") or "/").resolve().parent.parent
+def kit() -> Path:
+    """The folder of the kit."""
+    return Path(shutil.which("rattle") or "/").resolve().parent.parent
+
+
+def module_toolchain(folder: Path) -> Path:
+    """A folder for `rattle build --toolchain` whose clang is the kit's, and beside its work keeps the module that it is given, as module.bc.
+    What it makes of that is thrown away, so it spends no time on it."""
+    own, of_kit = folder / "toolchain", kit() / "toolchain"
+    (own / "bin").mkdir(parents=True, exist_ok=True)
+    for part in ("lib", "bin/ld.lld", "bin/llvm-ar", "bin/rattle-x64"):
+        if (of_kit / part).exists() and not (own / part).exists():
+            (own / part).symlink_to(of_kit / part)
+    clang = own / "bin" / "clang"
+    clang.write_text(
+        f'#!/bin/sh\nfor word; do case $word in *.bc) cp "$word" {shlex.quote(str(folder / "module.bc"))} ;; esac; done\n'
+        f'exec {shlex.quote(str(of_kit / "bin" / "clang"))} "$@" -O0\n'
+    )
+    clang.chmod(0o755)
+    return own
+
+
+def call_of_rattle(made: Path, room: Path, name: str, toolchain: Path, checked: Path) -> list[str]:
+    """The command that makes the archive of a static library, or a further build of a crate, over the libraries that `rt ci` left in the room."""
+    crates, of_kit = closure(name), kit()
     own = {it: room / "crates" / it / "out" / "rlib" for it in crates[:-1]}
-    words = ["rattle", "build", "--crate-name", name, "src/lib.rt", "--crate-type", "staticlib"]
-    for it in ("std", *uses()[name]):
-        words += ["--extern", f"{it}={own.get(it, kit / 'rlibs') / it}.rlib"]
-    for folder in (kit / "rlibs", *own.values()):
+    words = ["rattle", "build", "--crate-name", crates[-1], *(("src/lib.rt", "--crate-type", "staticlib") if is_archive(name) else ("src/main.rt",))]
+    for it in ("std", *uses()[crates[-1]]):
+        words += ["--extern", f"{it}={own.get(it, of_kit / 'rlibs') / it}.rlib"]
+    for folder in (of_kit / "rlibs", *own.values()):
         words += ["-L", f"dependency={folder}"]
-    words += ["--antt-project", f"{kit}/rattle/logic/antt-project.json", "--logic-built", f"{kit}/logic_built", "--toolchain", f"{kit}/toolchain", "-o", str(made)]
+    words += ["--antt-project", f"{of_kit}/rattle/logic/antt-project.json", "--logic-built", f"{of_kit}/logic_built", "--toolchain", str(toolchain)]
+    further = ("--incremental", str(checked), *BUILDS[build_of(name)]) if build_of(name) else ()
+    return [*words, *further, "-o", str(made)]
+
+
+def make_by_rattle(made: Path, room: Path, name: str, log: Path, checked: Path) -> None:
+    """Makes the archive of a static library, or a further build of a crate, over the libraries that `rt ci` left in the room. What a further
+    build checks of the crate is kept in the folder `checked`, which the caller makes for its own builds alone, and the next begins with it."""
     made.parent.mkdir(exist_ok=True)
+    checked.mkdir(exist_ok=True)
+    is_module = build_of(name) == MODULE
+    toolchain = module_toolchain(checked) if is_module else kit() / "toolchain"
+    calls = [call_of_rattle(made, room, name, toolchain, checked)]
+    if is_module:
+        calls.append([str(kit() / "toolchain" / "bin" / "clang"), "-x", "ir", "-S", "-emit-llvm", "-O0", "-Xclang", "-disable-llvm-passes", str(checked / "module.bc"), "-o", str(made)])
     with open(log, "a", encoding="utf-8") as kept:
-        status = subprocess.run(words, cwd=room / "crates" / name, stdin=subprocess.DEVNULL, stdout=kept, stderr=subprocess.STDOUT).returncode
-    if status:
-        raise CantBuild(f"not built: rattle build ended with status {status}, and all that it said is in {log}", NOT_BUILT)
+        for words in calls:
+            status = subprocess.run(words, cwd=room / "crates" / crate_of(name), stdin=subprocess.DEVNULL, stdout=kept, stderr=subprocess.STDOUT).returncode
+            if status:
+                raise CantBuild(f"not built: {' '.join(words[:2])} ended with status {status}, and all that it said is in {log}", NOT_BUILT)
 
 
 def run_rt(room: Path, progress: Progress, log: Path, yields: bool, say: Say) -> int:
@@ -444,8 +505,11 @@ def alone(say: Say) -> Iterator[None]:
 def build(say: Say, *names: str) -> None:
     """Builds the programs and libraries of these crates that aren't built from the sources as they stand, in one go, or raises why they
     can't be. What `say` is given is for a person to read."""
+    wanted = names or (NAME,)
+    if all(map(is_built, wanted)):
+        return  # whoever builds something else isn't waited for
     with alone(say):
-        missing = tuple(it for it in names or (NAME,) if not is_built(it))
+        missing = tuple(it for it in wanted if not is_built(it))
         if missing:
             build_missing(say, missing)
 
@@ -471,10 +535,10 @@ def build_missing(say: Say, names: tuple[str, ...]) -> None:
                 ahead.end()
         for name in names:
             made = room / path_of(name).relative_to(TOP)
-            if status or not (is_archive(name) or is_made(made, name)):
+            if status or not (is_by_rattle(name) or is_made(made, name)):
                 raise CantBuild(f"not built: rt ci ended with status {status}, and all that it said is in {log}", NOT_BUILT)
-            if is_archive(name):
-                make_archive(made, room, closure(name), log)
+            if is_by_rattle(name):
+                make_by_rattle(made, room, name, log, room / f"checked-{crate_of(name)}")
             take(made, name, sources[name])
     progress.end()
     log.unlink()

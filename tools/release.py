@@ -38,14 +38,16 @@ TOP = program.TOP
 PLATFORM = "x86_64-linux"
 # The programs: where each stands in a release, and its crate.
 PROGRAMS = {"dsp_console": program.NAME, "gateway_console": program.GATEWAY}
-# The crates whose archives the C library is made of.
+# The crates whose archives the C library is made of, and the build for processors of a higher level, which the loader finds in this folder
+# beside the library. A release has it where it was built; ORIGIN says whether.
 ARCHIVES = ("dsp_library",)
+LEVEL, HWCAPS = "x86-64-v3", "glibc-hwcaps/x86-64-v3"
 # The files at the top that a release has. Its README is made of a page of docs.
-FILES = ("CHANGELOG.md", "LICENSE", "Makefile", "NOTICE", "SECURITY.md", "VERSION")
+FILES = ("CHANGELOG.md", "LICENSE", "Makefile", "NOTICE", "SECURITY.md", "SONAME", "VERSION")
 README = "docs/RELEASE.md"
-# The folders whose files a release has, and those within them whose files it hasn't.
-FOLDERS = ("docs/", "examples/", "python/", "c/examples/", "gst/")
-LEFT_OUT = ("python/tests/", "gst/tests/")
+# The folders whose files a release has, with the pages elsewhere that theirs link to; and those within them whose files it hasn't.
+FOLDERS = ("docs/", "examples/", "python/", "c/examples/", "gst/", "rust/", "bench/NOTEBOOK.md", "tests/README.md", "tests/model/README.md")
+LEFT_OUT = ("python/tests/", "gst/tests/", "rust/check", "rust/rokdaum/tests/")
 HEADER = "c/rokdaum.h"
 # What CMake finds the library by: c/Makefile makes them.
 CMAKE = ("rokdaumConfig.cmake", "rokdaumConfigVersion.cmake")
@@ -127,12 +129,16 @@ def library() -> dict[str, Entry]:
     """The C library, made of archives that are built already: for C, and beside the Python package."""
     for name in ARCHIVES:
         look_at_built(name)
-    made = subprocess.run(("make", "-s", "-C", "c", "all"), cwd=TOP, stdin=subprocess.DEVNULL, capture_output=True, text=True, check=False)
+    has_level = program.is_built(f"{ARCHIVES[0]}@{LEVEL}")
+    made = subprocess.run(("make", "-s", "-C", "c", "v3" if has_level else "all"), cwd=TOP, stdin=subprocess.DEVNULL, capture_output=True, text=True, check=False)
     if made.returncode:
         raise NoRelease(f"make -C c ended with status {made.returncode}: {(made.stdout + made.stderr).strip()[-500:]}")
     out, shared = TOP / "out" / "c", f"librokdaum.so.{version()}"
     text = (out / shared).read_bytes()
     found = {"lib/librokdaum.a": ((out / "librokdaum.a").read_bytes(), False), f"lib/{shared}": (text, False), "python/rokdaum/librokdaum.so": (text, False)}
+    if has_level:
+        higher = ((out / HWCAPS / shared).read_bytes(), False)
+        found |= {f"lib/{HWCAPS}/{shared}": higher, f"python/rokdaum/{HWCAPS}/librokdaum.so": higher}
     where = (TOP / "c" / "rokdaum.pc.in").read_text(encoding="utf-8").replace("@VERSION@", version())
     # Where it was unpacked the header stands in c.
     there = where.replace("@PREFIX@", "${pcfiledir}/../..").replace("${prefix}/include", "${prefix}/c")
@@ -151,6 +157,7 @@ def origin(binary: bytes, changed: bool) -> bytes:
         *(f"sources  {program.checksum(name)} of {name}" for name in (*PROGRAMS.values(), *ARCHIVES)),
         f"logic    {logic[1].decode()}",
         f"glibc    {wanted[0]}.{wanted[1]} or newer",
+        f"levels   x86-64-v2{f', and the library for {LEVEL} too' if program.is_built(f'{ARCHIVES[0]}@{LEVEL}') else ''}",
     )
     return "".join(f"{line}\n" for line in lines).encode()
 

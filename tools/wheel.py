@@ -31,6 +31,8 @@ PYTHON = "/usr/bin/python3"
 LIBRARY = "python/rokdaum/librokdaum.so"
 TEXTS = ("LICENSE", "NOTICE")
 NEEDED = re.compile(r"^\s+NEEDED\s+(\S+)$", re.M)
+# The C library and its loader, of which a thread-local variable is asked for: both are of the version that the tag names.
+PROMISED = {"libc.so.6", "ld-linux-x86-64.so.2"}
 # The oldest C library that such a tag can name.
 OLDEST = (2, 5)
 # A wheel for one platform and any Python: the library is loaded by ctypes, so no ABI of Python's is in it.
@@ -63,7 +65,7 @@ def platform_of(library: bytes) -> str:
             shown = subprocess.run(("objdump", "-p", file.name), capture_output=True, text=True, check=True).stdout
         except (OSError, subprocess.CalledProcessError) as why:
             raise release.NoRelease(f"objdump, of Debian's binutils, can't read the library: {why}") from why
-    more = sorted(set(NEEDED.findall(shown)) - {"libc.so.6"})
+    more = sorted(set(NEEDED.findall(shown)) - PROMISED)
     if more:
         raise release.NoRelease(f"the library needs {', '.join(more)} beside the C library, and no such tag promises that")
     major, minor = max([OLDEST, *(tuple(map(int, it)) for it in release.GLIBC.findall(library))])
@@ -72,7 +74,7 @@ def platform_of(library: bytes) -> str:
 
 def sources(found: dict[str, release.Entry]) -> dict[str, release.Entry]:
     """The files that the wheel is made of, by their paths in the folder of the package: those of a release below python/, and the licence."""
-    taken = {path.removeprefix("python/"): entry for path, entry in found.items() if path.startswith("python/") and not path.startswith("python/bin/")}
+    taken = {path.removeprefix("python/"): entry for path, entry in found.items() if path.startswith("python/") and not path.startswith(("python/bin/", f"python/rokdaum/{release.HWCAPS}/"))}
     platform = platform_of(found[LIBRARY][0])
     return {**taken, **{name: found[name] for name in TEXTS}, "setup.py": (SETUP.format(platform=platform).encode(), False)}
 

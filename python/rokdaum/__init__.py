@@ -27,7 +27,7 @@ if TYPE_CHECKING:
     from . import design, errors, g711, maps, operators, plot, samples, script
     from .host import Host, Instance, Line, SpaceMap, Stat
 
-__version__ = "0.9.0"
+__version__ = "1.0.0"
 
 OF_HOST = ("Host", "Instance", "Line", "SpaceMap", "Stat")
 MODULES = ("design", "errors", "g711", "maps", "operators", "plot", "samples", "script")

@@ -4,7 +4,7 @@
 It is looked for
 
 1. where the environment variable ROKDAUM_LIBRARY names a file, there and nowhere else;
-2. in the package's folder, where a release has it;
+2. in the package's folder, where a release has it, and beside it, in glibc-hwcaps/x86-64-v3, a build for processors of that level;
 3. in `out/c` of the repository that the package stands in, where `make -C c` leaves it;
 4. where the loader looks: LD_LIBRARY_PATH, /etc/ld.so.conf, /usr/lib.
 
@@ -15,6 +15,7 @@ from __future__ import annotations
 
 import ctypes
 import os
+import re
 from ctypes import POINTER, c_char_p, c_int, c_int16, c_int32, c_size_t, c_uint8, c_uint32, c_uint64, c_void_p
 from functools import cache
 from pathlib import Path
@@ -24,6 +25,12 @@ from .errors import LibraryMissing
 
 VARIABLE = "ROKDAUM_LIBRARY"
 NAME = "librokdaum.so"
+# What the loader knows it by: the repository's file SONAME.
+SONAME = "librokdaum.so.0"
+# Where the build for x86-64-v3 is beside NAME, as the loader has it too, and what /proc/cpuinfo calls all that this level has.
+HWCAPS = "glibc-hwcaps/x86-64-v3"
+LEVEL = frozenset("avx avx2 bmi1 bmi2 f16c fma abm movbe xsave".split())
+CPUINFO = Path("/proc/cpuinfo")
 # The limits of rokdaum.h.
 SPACE_WORDS, INSTANCES, GROUPS, CHANNELS, PARAMETER_WORDS, MAP_BLOCKS = 65536, 64, 8, 16, 72, 264
 # The order of rokdaum_kind and of rokdaum_space.
@@ -92,13 +99,23 @@ WITHOUT_HOST: dict[str, tuple[tuple[type, ...], type]] = {
 }
 
 
+def has_level() -> bool:
+    """Whether this processor is one of x86-64-v3. A library is loaded by its path here, and the loader looks for levels by names alone."""
+    try:
+        flags = re.search(r"^flags\s*:(.*)$", CPUINFO.read_text(encoding="utf-8"), re.M)
+    except OSError:
+        return False
+    return flags is not None and LEVEL <= set(flags[1].split())
+
+
 def candidates() -> list[str]:
     """The names to load, in order."""
     if named := os.environ.get(VARIABLE):
         return [named]
     package = Path(__file__).resolve().parent
-    found = [path for path in (package / NAME, package.parent.parent / "out" / "c" / NAME) if path.is_file()]
-    return [*map(str, found), f"{NAME}.{__version__.split('.')[0]}", NAME]
+    beside = [package / HWCAPS / NAME] if has_level() else []
+    found = [path for path in (*beside, package / NAME, package.parent.parent / "out" / "c" / NAME) if path.is_file()]
+    return [*map(str, found), SONAME, NAME]
 
 
 def open_first(names: list[str]) -> ctypes.CDLL:

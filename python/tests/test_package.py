@@ -8,6 +8,9 @@ import doctest
 import os
 import re
 import subprocess
+import tempfile
+from pathlib import Path
+from unittest import mock
 
 from case import PYTHON, REPOSITORY, Case, noise, tone
 from library_case import why_there_is_no_library
@@ -22,6 +25,21 @@ class Package(Case):
         given = (REPOSITORY / "VERSION").read_text().strip()
         self.assertEqual(rokdaum.__version__, given)
         self.assertEqual(re.findall(r'(?m)^version = "(.*)"$', (PYTHON / "pyproject.toml").read_text()), [given])
+        self.assertEqual(rokdaum.library.SONAME, (REPOSITORY / "SONAME").read_text().strip())
+
+    def test_levels(self) -> None:
+        """The build for x86-64-v3 is looked for where the processor has all of that level, and before the other."""
+        package = Path(rokdaum.library.__file__).parent
+        higher = str(package / rokdaum.library.HWCAPS / rokdaum.library.NAME)
+        every = " ".join(rokdaum.library.LEVEL)
+        with tempfile.TemporaryDirectory() as room, mock.patch.dict(os.environ), mock.patch.object(Path, "is_file", return_value=True):
+            os.environ.pop(rokdaum.library.VARIABLE, None)
+            for text, has in ((f"processor\t: 0\nflags\t\t: fpu {every} sse\n", True), (f"flags\t\t: {every.replace('avx2', 'avx')}\n", False), ("Features\t: fp asimd\n", False)):
+                (Path(room) / "cpuinfo").write_text(text)
+                with mock.patch.object(rokdaum.library, "CPUINFO", Path(room) / "cpuinfo"):
+                    self.assertEqual(rokdaum.library.candidates()[: 1 + has], [higher, str(package / rokdaum.library.NAME)][1 - has :])
+            with mock.patch.object(rokdaum.library, "CPUINFO", Path(room) / "none"):
+                self.assertFalse(rokdaum.library.has_level())
 
     def test_functions_are_short_and_documented(self) -> None:
         seen = 0

@@ -90,6 +90,8 @@ class Wrapper(unittest.TestCase):
             listed.write("ffi staticlib: low\n")
         (self.bin / "rattle").write_text('#!/usr/bin/env bash\nfor word; do last=$word; done\necho "$*" > "$last"\n')
         (self.bin / "rattle").chmod(0o755)
+        (self.room / "toolchain" / "bin").mkdir(parents=True)
+        shutil.copy(self.bin / "rattle", self.room / "toolchain" / "bin" / "clang")
         call = "import sys; sys.path.insert(0, 'tools'); import program; program.keep_archive('ffi', sys.argv[1] or program.checksum('ffi')); print(program.is_built('ffi'), program.archives(), program.has_libraries())"
         more = {**os.environ, "PATH": f"{self.bin}:/usr/bin:/bin"}
 
@@ -100,6 +102,13 @@ class Wrapper(unittest.TestCase):
         self.assertEqual((made("of other sources"), archive.exists()), ("False ['ffi'] True\n", False))
         self.assertEqual(made(""), "True ['ffi'] True\n")
         self.assertIn(f"--extern low={self.top}/crates/low/out/rlib/low.rlib", archive.read_text())
+        # a further build is another call over the same libraries, which begins with what the one before it checked
+        further = "import sys; sys.path.insert(0, 'tools'); import program; from pathlib import Path; room = Path(sys.argv[1]); [program.make_by_rattle(room / build, program.TOP, f'ffi@{build}', room / 'log', room / 'checked') for build in program.BUILDS]"
+        subprocess.run([sys.executable, "-B", "-c", further, str(self.room)], cwd=self.top, env=more, check=True)
+        self.assertIn("--cpu x86-64-v3", (self.room / "x86-64-v3").read_text())
+        self.assertIn("--target aarch64-unknown-linux-gnu", (self.room / "aarch64-linux-gnu").read_text())
+        self.assertIn("-S -emit-llvm", (self.room / "module").read_text())
+        self.assertNotIn("--incremental", archive.read_text())
         self.assertEqual(self.builds(), 0)
 
     def test_what_was_proved_before_is_counted(self) -> None:
@@ -197,6 +206,16 @@ class Parts(unittest.TestCase):
 
     def test_a_static_library_is_an_archive(self) -> None:
         self.assertEqual([program.path_of(it).name for it in ("dsp_library", "voice_set", program.NAME)], ["libdsp_library.a", "voice_set", "dsp_console_main"])
+
+    def test_further_builds_are_of_the_same_crates(self) -> None:
+        names = ("dsp_library@x86-64-v3", "dsp_library@aarch64-linux-gnu", "dsp_library@module", "dsp_console_main@module")
+        self.assertEqual([program.path_of(it).name for it in names], ["libdsp_library-x86-64-v3.a", "libdsp_library-aarch64-linux-gnu.a", "dsp_library.ll", "dsp_console_main.ll"])
+        self.assertEqual({program.checksum(it) for it in names[:3]}, {program.checksum("dsp_library")})
+        self.assertEqual(program.closure("dsp_library", *names[:3]), program.closure("dsp_library"))
+        self.assertEqual(program.closure("dsp_console_main@module")[-1], program.NAME)
+        self.assertEqual([program.is_archive(it) for it in names], [True, True, True, False])
+        self.assertTrue(all(map(program.is_by_rattle, names)))
+        self.assertFalse(program.is_by_rattle(program.NAME))
 
     def test_a_crate_stands_behind_what_it_uses(self) -> None:
         crates = program.closure()

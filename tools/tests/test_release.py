@@ -4,6 +4,7 @@
 from __future__ import annotations
 
 import hashlib
+import json
 import os
 import re
 import shlex
@@ -14,6 +15,7 @@ import tarfile
 import tempfile
 import unittest
 from pathlib import Path
+from typing import Any, cast
 
 TOP = Path(__file__).resolve().parents[2]
 sys.path.insert(0, str(TOP / "tools"))
@@ -21,7 +23,7 @@ sys.path.insert(0, str(TOP / "tools"))
 from tests.case import entered  # noqa: E402  (its folder has to be on the path first)
 
 LOGIC = "5a" * 32
-SCRIPT = f"#!/bin/sh\n# rattle logic={LOGIC}\n# GLIBC_2.9 GLIBC_2.31\necho proved\n"
+SCRIPT = f"#!/bin/sh\n# rattle logic={LOGIC}\n# proved with rattle-kit-1 logic {LOGIC[:16]}\n# GLIBC_2.9 GLIBC_2.31\necho proved\n"
 PROGRAMS, ARCHIVES = ("dsp_console_main", "gateway_console"), ("dsp_library",)
 # A library that is made as c/Makefile makes the real one: of the archives.
 LIBRARY = """all:
@@ -66,6 +68,7 @@ class Release(unittest.TestCase):
             "python/bin/dsp_map": "#!/bin/sh\n",
             "python/tests/test_host.py": "no part of a release\n",
             "VERSION": "1.2.3\n",
+            "SONAME": "librokdaum.so.4\n",
             ".gitignore": "out/\n",
             "secret/key": "no part of a release\n",
         }
@@ -76,7 +79,7 @@ class Release(unittest.TestCase):
             (self.top / path).write_text(text)
         shutil.copy(TOP / "Makefile", self.top)
         (self.top / "tools").mkdir()
-        for tool in ("crates.py", "program.py", "release.py"):
+        for tool in ("bom.py", "crates.py", "deb.py", "dist.py", "program.py", "release.py", "wheel.py"):
             shutil.copy(TOP / "tools" / tool, self.top / "tools")
         for path in ("examples/x", "python/bin/dsp_run", "python/bin/dsp_design", "python/bin/dsp_map"):
             (self.top / path).chmod(0o755)
@@ -118,7 +121,7 @@ class Release(unittest.TestCase):
         with tarfile.open(path) as tar:
             found = {it.name: it for it in tar.getmembers()}
             texts = {name.partition("/")[2]: content(tar, name).decode() for name, it in found.items() if it.isfile()}
-        wanted = {"CHANGELOG.md", "LICENSE", "Makefile", "NOTICE", "ORIGIN", "README.md", "SECURITY.md", "SHA256SUMS", "VERSION", "docs/A.md", "docs/RELEASE.md"}
+        wanted = {"CHANGELOG.md", "LICENSE", "Makefile", "NOTICE", "ORIGIN", "README.md", "SECURITY.md", "SHA256SUMS", "SONAME", "VERSION", "docs/A.md", "docs/RELEASE.md"}
         wanted |= {"docs/completion/dsp_console", "docs/man/dsp_console.1", "docs/man/rokdaum.3", "dsp_console", "gateway_console", "examples/x"}
         wanted |= {"c/rokdaum.h", "c/examples/e.c", "lib/librokdaum.a", "lib/librokdaum.so.1.2.3", "lib/pkgconfig/rokdaum.pc", "lib/cmake/rokdaum/rokdaumConfig.cmake", "lib/cmake/rokdaum/rokdaumConfigVersion.cmake"}
         wanted |= {f"python/{it}" for it in ("rokdaum/host.py", "rokdaum/librokdaum.so", "bin/dsp_run", "bin/dsp_design", "bin/dsp_map")}
@@ -148,7 +151,35 @@ class Release(unittest.TestCase):
         shutil.rmtree(self.top / "crates/dsp_console_main/out")
         self.assertIn("isn't built", self.release(status=69))
         self.assertFalse(self.out.exists())
-        self.call("make", "dist", status=2)
+        self.assertIn("isn't built", self.call("make", "dist", status=2))
+
+    def bill(self, *others: Path) -> dict[str, Any]:
+        """The bill of materials of a release and of artefacts that were made of it."""
+        words = "import bom, release, sys; from pathlib import Path; found = release.contents(False); print(bom.bill(found, release.write(Path(sys.argv[1]), found), list(map(Path, sys.argv[2:]))).decode())"
+        ran = subprocess.run((sys.executable, "-B", "-c", words, self.out, *others), cwd=self.top / "tools", capture_output=True, text=True, check=True)
+        return cast("dict[str, Any]", json.loads(ran.stdout))
+
+    def test_a_bill_of_materials(self) -> None:
+        wheel = self.room / "one.whl"
+        wheel.write_bytes(b"wheel")
+        found = self.bill(wheel)
+        self.assertEqual(self.bill(wheel), found)
+        archive = self.out / "rokdaum-1.2.3-x86_64-linux.tar.gz"
+        packages = {it["name"]: it for it in found["packages"]}
+        for name, path in (("rokdaum", archive), ("one.whl", wheel)):
+            self.assertEqual({it["algorithm"]: it["checksumValue"] for it in packages[name]["checksums"]}["SHA256"], hashlib.sha256(path.read_bytes()).hexdigest())
+        self.assertEqual((packages["arrayvec"]["versionInfo"], packages["glibc"]["versionInfo"]), ("rattle-kit-1", "2.31 or newer"))
+        with tarfile.open(archive) as tar:
+            held = {f"./{it.name.partition('/')[2]}": content(tar, it.name) for it in tar.getmembers() if it.isfile()}
+        self.assertEqual({it["fileName"]: it["checksums"][0]["checksumValue"] for it in found["files"]}, {name: hashlib.sha1(text).hexdigest() for name, text in held.items()})
+        sums = "".join(sorted(hashlib.sha1(text).hexdigest() for text in held.values()))
+        self.assertEqual(packages["rokdaum"]["packageVerificationCode"]["packageVerificationCodeValue"], hashlib.sha1(sums.encode()).hexdigest())
+        known = {it["SPDXID"] for it in (*found["packages"], *found["files"], found)}
+        self.assertEqual(len(known), len(found["packages"]) + len(found["files"]) + 1)
+        self.assertLessEqual({it[end] for it in found["relationships"] for end in ("spdxElementId", "relatedSpdxElement")}, known)
+        of = {it["SPDXID"]: it["fileName"] for it in found["files"]}
+        linked = {of[it["spdxElementId"]] for it in found["relationships"] if it["relationshipType"] == "STATIC_LINK"}
+        self.assertEqual(linked, {"./dsp_console", "./gateway_console", "./lib/librokdaum.a", "./lib/librokdaum.so.1.2.3", "./python/rokdaum/librokdaum.so"})
 
     def test_no_library(self) -> None:
         (self.top / "crates/dsp_library/out/libdsp_library.a").unlink()
@@ -194,7 +225,7 @@ class Release(unittest.TestCase):
         for _ in range(2):
             self.call("make", "install", "PREFIX=/usr", f"DESTDIR={target}")
         self.assertEqual([self.call(str(target / "usr/bin" / name)) for name in ("dsp_console", "gateway_console", "dsp_run")], ["proved\n", "proved\n", "ran\n"])
-        for path in ("include/rokdaum.h", "lib/librokdaum.a", "lib/librokdaum.so", "share/rokdaum/python/rokdaum/librokdaum.so", "share/doc/rokdaum/python/rokdaum/host.py", "share/doc/rokdaum/c/rokdaum.h", "share/doc/rokdaum/c/examples/e.c"):
+        for path in ("include/rokdaum.h", "lib/librokdaum.a", "lib/librokdaum.so", "lib/librokdaum.so.4", "share/rokdaum/python/rokdaum/librokdaum.so", "share/doc/rokdaum/python/rokdaum/host.py", "share/doc/rokdaum/c/rokdaum.h", "share/doc/rokdaum/c/examples/e.c"):
             self.assertTrue((target / "usr" / path).is_file(), path)
         self.assertEqual((target / "usr/lib/pkgconfig/rokdaum.pc").read_text(), "prefix=/usr\nincludedir=${prefix}/include\nVersion: 1.2.3\n")
         self.assertTrue((target / "usr/share/doc/rokdaum/dsp_console").samefile(target / "usr/bin/dsp_console"))
